@@ -1,0 +1,78 @@
+-- What the step count and held answer, their refusals, and what the step enum tells.
+use Prim.Native.Nat.{ℕ, _^_}
+use mathlib.Core.Bool.{Bool, _||_}
+use mathlib.Core.List.{List, [], _∷_, _++_}
+use lib.Dec.{ltb, leb}
+use Rattle.cube.specs.Checks.{Check, check, first, Reply, gives, refuses, answered}
+use Rattle.planner.specs.Plans.{PlanLists, boardCount, stepCount, listsOf}
+use Rattle.planner.specs.Refusals.{planChecks}
+use Rattle.planner.specs.declared.types.Plan.{Plan}
+use Rattle.boards.specs.declared.types.Step.{Step}
+use Rattle.boards.specs.declared.types.Step.the-variants as Step′
+use Rattle.boards.specs.declared.types.Held.{Held}
+use Rattle.boards.specs.declared.types.Held.the-variants as Held′
+use Rattle.boards.specs.declared.types.Counted.{Counted}
+use Rattle.boards.specs.declared.types.Counted.the-variants as Counted′
+use Rattle.boards.specs.Grids.{Grid, gridOf, maskOf}
+use Rattle.boards.specs.Steps.{Move, expand, transfer, finish}
+use Rattle.boards.specs.Held as Held
+
+-- ---- steps
+
+-- what a call of step tells, in the paper's values: a choice by its mask
+pub data Told : Type 0 where
+  expands : ℕ → Told
+  -- sender, receiver, choice, number of values
+  transfers : ℕ → ℕ → ℕ → ℕ → Told
+  finishes : ℕ → Told
+  done : Told
+  refused : ℕ → Told
+
+abbrev pub told : Step → Told
+told (Step′.Expand c) = expands (c .mask)
+told (Step′.Transfer t) = transfers (t .sender) (t .receiver) (t .choice .mask) (t .values)
+told (Step′.Finish c) = finishes (c .mask)
+told Step′.Done = done
+told (Step′.Refused n) = refused n
+
+-- what is to be told of a step of the list
+abbrev pub telling : Grid → Move → Told
+telling g (expand Y) = expands (maskOf g Y)
+telling g (transfer Y s r n) = transfers s r (maskOf g Y) n
+telling g (finish Y) = finishes (maskOf g Y)
+
+-- ---- the checks that concern positions and boards
+
+-- 12. "The position is over T, .. or a named board is not below 2^p."
+unfoldable pub pastEnd : PlanLists → ℕ → Bool
+pastEnd a at = ltb (stepCount a) at
+
+unfoldable pub noBoard : PlanLists → ℕ → Bool
+noBoard a b = leb (boardCount a) b
+
+unfoldable pub heldChecks : Plan → ℕ → ℕ → List Check
+heldChecks q at b = planChecks q ++ (check 12 (pastEnd (listsOf q) at || noBoard (listsOf q) b) ∷ [])
+
+unfoldable pub heldRefusal : Plan → ℕ → ℕ → ℕ
+heldRefusal q at b = first (heldChecks q at b)
+
+unfoldable pub countRefusal : Plan → ℕ
+countRefusal q = first (planChecks q)
+
+-- ---- the answers
+
+abbrev pub heldReply : Held → Reply ℕ
+heldReply (Held′.Cells n) = gives n
+heldReply (Held′.Refused n) = refuses n
+
+abbrev pub countedReply : Counted → Reply ℕ
+countedReply (Counted′.Steps n) = gives n
+countedReply (Counted′.Refused n) = refuses n
+
+-- the number of cells that board b holds at a position, or the refusal
+unfoldable pub holding : Plan → ℕ → ℕ → Reply ℕ
+holding q at b = answered (heldRefusal q at b) (Held.held (gridOf (listsOf q)) at b)
+
+-- T, or the refusal
+unfoldable pub counting : Plan → Reply ℕ
+counting q = answered (countRefusal q) (stepCount (listsOf q))

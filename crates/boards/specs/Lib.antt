@@ -1,0 +1,5 @@
+pub mod Grids
+pub mod Steps
+pub mod Held
+pub mod Answers
+pub mod Computing

@@ -1,0 +1,53 @@
+-- The whole list of a plan's steps.
+use Prim.Native.Nat.{ℕ, zero, suc, _+_, _-_}
+use mathlib.Core.Bool.{Bool}
+use mathlib.Core.List.{List, [], _∷_, _++_}
+use Rattle.cube.specs.Boxes.{pick}
+use Rattle.cube.specs.Tree.{lastOf}
+use Rattle.boards.specs.Grids.{Grid, boards, withLabel, lead, cells}
+
+-- A step of the list. A choice is given by its summed-out set.
+pub data Move : Type 0 where
+  -- the choice whose children are formed
+  expand : List ℕ → Move
+  -- the choice, the sender, the receiver, the number of values
+  transfer : List ℕ → ℕ → ℕ → ℕ → Move
+  finish : List ℕ → Move
+
+-- f 0 ++ f 1 ++ .. ++ f (n - 1)
+unfoldable pub each : ℕ → (ℕ → List Move) → List Move
+each zero f = []
+each (suc n) f = each n f ++ f n
+
+-- "one board's cells of a child are added to those of the lead board, whose label on the axis just summed is 0"; "senders by ascending label"
+-- "That number is the count of the sender's cells of the child, all of which move."
+unfoldable pub sends : Grid → List ℕ → ℕ → ℕ → List Move
+sends g Y b n = each n (λ l. let s = withLabel g b (lastOf Y) (suc l) in transfer Y s b (cells g Y s) ∷ [])
+
+-- "Leads go in ascending number"
+unfoldable pub transfers : Grid → List ℕ → ℕ → List Move
+transfers g Y n = each n (λ b. pick (lead g Y b) (sends g Y b (g .parts (lastOf Y) - 1)) [])
+
+-- The visit of a choice that has m children, given the walk over these: "expanded if it has children of its own, then finished", "finished after all its children"
+abbrev pub visit : List ℕ → ℕ → List Move → List Move
+visit Y zero inner = inner ++ (finish Y ∷ [])
+visit Y (suc m) inner = (expand Y ∷ []) ++ (inner ++ (finish Y ∷ []))
+
+-- The walk over the m children d, d + 1, .. of the choice Y: "its children are taken from right to left. Each child is first made final by transfers"
+unfoldable pub walk : Grid → ℕ → ℕ → List ℕ → List Move
+walk g zero d Y = []
+walk g (suc m) d Y = walk g m (d + 1) Y ++ (transfers g (d ∷ Y) (boards g) ++ visit (d ∷ Y) m (walk g m (d + 1) (d ∷ Y)))
+
+-- "It opens by expanding the root, which is never finished."
+unfoldable pub moves : Grid → List Move
+moves g = (expand [] ∷ []) ++ walk g (g .axes) 0 []
+
+-- the values that a list of steps moves
+abbrev pub valuesOf : Move → ℕ
+valuesOf (expand Y) = 0
+valuesOf (transfer Y s r n) = n
+valuesOf (finish Y) = 0
+
+unfoldable pub values : List Move → ℕ
+values [] = 0
+values (m ∷ l) = valuesOf m + values l

@@ -1,0 +1,115 @@
+-- Laws for counting the cells of a choice, axis by axis.
+use Prim.Native.Nat.{ℕ, zero, suc, _+_, _-_, _*_, _≤_, _<_}
+use mathlib.Core.Path.{_≡_, sym, _∙_, refl, ap}
+use mathlib.Core.Bool.{Bool, true, false}
+use mathlib.Core.List.{List}
+use lib.Dec.{eqb}
+use borrow.Author.Tests.{eqb-true, eqb-false}
+use native.Mathlib.Nat.{le-refl, mul-pos, mul-le-mul, mul-assoc, mul-one, one-mul, le-trans, mul-le-mul-left}
+use native.Mathlib.Omega.{arith}
+use lib.ListN.{length, getD, take}
+use lib.Seq.{getD-take}
+use Rattle.cube.specs.Boxes.{pick, product}
+use Rattle.cube.specs.Choices.{keeps, lengthOf, keptLength, cells, points, Countable}
+use Rattle.cube.proofs.Sums.{by}
+
+pub product-pos : (e : ℕ → ℕ) (m d : ℕ) → ((i : ℕ) → d ≤ i → i < d + m → 0 < e i) → 0 < product e m d
+unfolding product
+product-pos e zero d h = omega arith
+product-pos e (suc m) d h = mul-pos (h d (omega arith) (omega arith)) (product-pos e m (d + 1) (λ i l r. h i (omega arith) (omega arith)))
+
+pub product-le : (e e′ : ℕ → ℕ) (m d : ℕ) → ((i : ℕ) → d ≤ i → i < d + m → e i ≤ e′ i) → product e m d ≤ product e′ m d
+unfolding product
+product-le e e′ zero d h = omega arith
+product-le e e′ (suc m) d h = mul-le-mul (h d (omega arith) (omega arith)) (product-le e e′ m (d + 1) (λ i l r. h i (omega arith) (omega arith)))
+
+-- a factor is at most the product
+factor-le : (e : ℕ → ℕ) (m d i : ℕ) → ((i : ℕ) → d ≤ i → i < d + m → 0 < e i) → d ≤ i → i < d + m → e i ≤ product e m d
+unfolding product
+factor-le e zero d i h l r = absurd (omega arith)
+factor-le e (suc m) d i h l r =
+    let rest : 0 < product e m (d + 1) = product-pos e m (d + 1) (λ i l r. h i (omega arith) (omega arith)) in
+    let here : 0 < e d = h d (omega arith) (omega arith) in
+    by (eqb i d)
+    (λ t. let p = mul-le-mul-left (e d) rest in let q = mul-one (e d) in rw (eqb-true i d t) (omega arith))
+    (λ t.
+    let ne = eqb-false i d t in
+    let ih = factor-le e m (d + 1) i (λ i l r. h i (omega arith) (omega arith)) (omega (arith, ne)) (omega arith) in
+    let p = mul-le-mul here (le-refl (product e m (d + 1))) in
+    let q = one-mul (product e m (d + 1)) in
+    omega arith)
+
+-- what is left to multiply, where axis d comes next
+pub product-next : (e : ℕ → ℕ) (n d : ℕ) → d < n → product e (n - d) d ≡ e d * product e (n - (d + 1)) (d + 1)
+unfolding product
+product-next e n d h = let q : n - d ≡ suc (n - (d + 1)) = omega arith in rw q
+
+pub product-none : (e : ℕ → ℕ) (n d : ℕ) → n ≤ d → product e (n - d) d ≡ 1
+unfolding product
+product-none e n d h = let q : n - d ≡ 0 = omega arith in rw q
+
+pub kept-length : (ds : List ℕ) (mask d : ℕ) → keeps mask d ≡ true → keptLength ds mask d ≡ lengthOf ds d
+unfolding keptLength
+kept-length ds mask d h = rw h
+
+pub summed-length : (ds : List ℕ) (mask d : ℕ) → keeps mask d ≡ false → keptLength ds mask d ≡ 1
+unfolding keptLength
+summed-length ds mask d h = rw h
+
+kept-le : (ds : List ℕ) (mask d : ℕ) → 0 < lengthOf ds d → keptLength ds mask d ≤ lengthOf ds d
+kept-le ds mask d h =
+    by (keeps mask d)
+    (λ t. let q = kept-length ds mask d t in omega arith)
+    (λ t. let q = summed-length ds mask d t in omega arith)
+
+kept-pos : (ds : List ℕ) (mask d : ℕ) → 0 < lengthOf ds d → 0 < keptLength ds mask d
+kept-pos ds mask d h =
+    by (keeps mask d)
+    (λ t. let q = kept-length ds mask d t in omega arith)
+    (λ t. let q = summed-length ds mask d t in omega arith)
+
+module _ (ds : List ℕ) (n mask : ℕ) (ok : Countable ds n) where
+  abbrev pub left : ℕ → ℕ
+  left d = product (keptLength ds mask) (n - d) d
+
+  left-pos : (d : ℕ) → 0 < left d
+  left-pos d = product-pos (keptLength ds mask) (n - d) d (λ i l r. kept-pos ds mask i (ok .some i (omega arith)))
+
+  pub count-start : 1 * left 0 ≡ cells ds mask
+  unfolding cells
+  count-start = let q = ok .each in let z : n - 0 ≡ n = omega arith in rw (one-mul, z, ← q)
+
+  pub cells-small : cells ds mask ≤ 16777216
+  unfolding cells points
+  cells-small =
+      let s = ok .small in
+      let q = ok .each in
+      let r = product-le (keptLength ds mask) (lengthOf ds) (length ds) 0 (λ i l r. kept-le ds mask i (ok .some i (omega arith))) in
+      le-trans r s
+
+  module _ (d count : ℕ) (h : d < n) (e : count * left d ≡ cells ds mask) where
+    pub count-kept : keeps mask d ≡ true → count * lengthOf ds d * left (d + 1) ≡ cells ds mask
+    count-kept t = rw (product-next (keptLength ds mask) n d h, kept-length ds mask d t, ← mul-assoc) at e
+
+    pub count-summed : keeps mask d ≡ false → count * left (d + 1) ≡ cells ds mask
+    count-summed t = rw (product-next (keptLength ds mask) n d h, summed-length ds mask d t, one-mul) at e
+
+    -- so far the count is at most the cells
+    pub count-fits : keeps mask d ≡ true → count * lengthOf ds d ≤ 16777216
+    count-fits t =
+        let q = count-kept t in
+        let s = cells-small in
+        let p : count * lengthOf ds d * 1 ≤ count * lengthOf ds d * left (d + 1) = mul-le-mul-left (count * lengthOf ds d) (left-pos (d + 1)) in
+        let r = mul-one (count * lengthOf ds d) in
+        omega arith
+
+  pub count-end : (d count : ℕ) → n ≤ d → count * left d ≡ cells ds mask → count ≡ cells ds mask
+  count-end d count h e = rw (product-none (keptLength ds mask) n d h, mul-one) at e
+
+  -- no length passes the points
+  pub length-small : (d : ℕ) → d < n → lengthOf ds d ≤ 16777216
+  unfolding points
+  length-small d h =
+      let q = ok .each in
+      let s = ok .small in
+      le-trans (factor-le (lengthOf ds) (length ds) 0 d (λ i l r. ok .some i (omega arith)) (omega arith) (omega arith)) s

@@ -1,0 +1,5 @@
+pub mod Sums
+pub mod Boxing
+pub mod Portions
+pub mod Digits
+pub mod Counting

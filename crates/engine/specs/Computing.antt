@@ -1,0 +1,10 @@
+-- Names every definition, so that a fact that computes with them says `unfolding computing`.
+use Prim.Native.Nat.{ℕ}
+use Rattle.engine.specs.Memory
+use Rattle.engine.specs.Gather
+use Rattle.engine.specs.Entries
+use Rattle.boards.specs.Computing as boards
+
+unfoldable pub computing : ℕ
+unfolding Memory.residue Memory.wrapped Memory.pointAt Memory.source Memory.formed Memory.forms Memory.after Memory.stepped Memory.ran Gather.portionFrom Gather.portionOf Gather.owner Gather.local Gather.gatheredPosition Gather.gathered Gather.viewed Entries.badArray Entries.workCells Entries.smallArea Entries.noFinish Entries.wrongResult Entries.stepChecks Entries.taken Entries.stepOr Entries.stepRefusal Entries.stepping Entries.viewChecks Entries.viewRefusal Entries.viewOr Entries.viewing Entries.gatherChecks Entries.gatherRefusal Entries.gatherOr Entries.gathering boards.computing
+computing = 0

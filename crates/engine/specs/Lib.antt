@@ -1,0 +1,4 @@
+pub mod Memory
+pub mod Gather
+pub mod Entries
+pub mod Computing

@@ -1,0 +1,5 @@
+pub mod Plans
+pub mod Rule
+pub mod Refusals
+pub mod Answers
+pub mod Computing

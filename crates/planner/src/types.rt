@@ -1,0 +1,29 @@
+// A plan, lent and returned by value. Lengths and exponents are by axis number; slots past the last axis are zero.
+// Lengths are wider than 16 bits, so that one over 65,535 can be given and refused.
+pub struct Plan {
+    pub axes: u8,
+    pub p: u8,
+    pub lengths: [u32; 8],
+    pub order: [u8; 8],
+    pub exponents: [u8; 8],
+}
+
+// What a plan costs: values moved, cells added up, and A, the cells of a board's share.
+pub struct Prices {
+    pub moved: u64,
+    pub added: u64,
+    pub share: u64,
+}
+
+// The answer of pricing.
+pub enum Priced {
+    Given(Prices),
+    Refused(u8),
+}
+
+// The answer of planning: refusal 0 with the plan and its prices, or the refusal with nothing but zeros.
+pub struct Planned {
+    pub refusal: u8,
+    pub plan: Plan,
+    pub prices: Prices,
+}

@@ -1,0 +1,10 @@
+-- Names every definition, so that a fact that computes with them says `unfolding computing`.
+use Prim.Native.Nat.{ℕ}
+use Rattle.report.specs.Text
+use Rattle.report.specs.Printed
+use Rattle.tape.specs.Computing as tape
+use Rattle.engine.specs.Computing as engine
+
+unfoldable pub computing : ℕ
+unfolding Text.text Text.digits Text.decimal Text.signed Printed.tooLarge Printed.programChecks Printed.programRefusal Printed.fields Printed.numbers Printed.signeds Printed.planLine Printed.dimLines Printed.groupLine Printed.lineOf Printed.groupLines Printed.groups Printed.endLine Printed.report Printed.reportOr Printed.printed tape.computing engine.computing
+computing = 0

@@ -1,0 +1,99 @@
+-- The printed output of the program, as a function from the tape's bytes to the bytes printed.
+use Prim.Native.Nat.{ℕ, zero, suc, _+_, _*_}
+use mathlib.Core.Bool.{Bool, true, false, _||_, not}
+use mathlib.Core.Option.{Option, none, some}
+use mathlib.Core.List.{List, [], _∷_, _++_}
+use lib.Dec.{eqb, ltb}
+use lib.ListN.{length, getD}
+use lib.IntN.{ℤ, pos}
+use Rattle.cube.specs.Choices.{totals}
+use Rattle.cube.specs.Checks.{Check, check, first}
+use Rattle.planner.specs.Plans.{PlanLists, axisAt, lengthAt, exponentAt, moved, added, shareSize}
+use Rattle.planner.specs.Rule.{planOf}
+use Rattle.planner.specs.Refusals.{planningChecks}
+use Rattle.boards.specs.Grids.{Grid, gridOf, maskOf}
+use Rattle.boards.specs.Steps.{Move, expand, transfer, finish, moves}
+use Rattle.engine.specs.Entries.{badArray, workCells}
+use Rattle.engine.specs.Memory.{read}
+use Rattle.tape.specs.Tapes.{Campaign, campaign}
+use Rattle.tape.specs.Reading.{tooLong, isNone, orEmpty}
+use Rattle.report.specs.Text.{text, decimal, signed}
+
+-- ---- the refusals of the program: 1 to 7, 10, 11
+
+-- the planner's plan of a campaign
+abbrev pub planFor : Campaign → PlanLists
+planFor c = planOf (c .lengths) (c .p)
+
+-- 11. "in the program either count passes 8,192": the points, and 2^p·A
+unfoldable pub tooLarge : Campaign → Bool
+tooLarge c = ltb 8192 (length (c .points)) || ltb 8192 (workCells (planFor c))
+
+unfoldable pub programChecks : List ℕ → Option Campaign → List Check
+programChecks tape o =
+    let c = orEmpty o in
+    check 1 (tooLong tape) ∷ check 2 (isNone o) ∷ (planningChecks (c .lengths) (c .p) ++ (check 10 (badArray (planFor c) (length (c .points))) ∷ check 11 (tooLarge c) ∷ []))
+
+unfoldable pub programRefusal : List ℕ → ℕ
+programRefusal tape = first (programChecks tape (campaign tape))
+
+-- ---- lines: "One space parts two fields, a line feed ends every line"
+
+unfoldable pub fields : List (List ℕ) → List ℕ
+fields [] = text "\n"
+fields (f ∷ r) = text " " ++ (f ++ fields r)
+
+unfoldable pub numbers : List ℕ → List (List ℕ)
+numbers [] = []
+numbers (n ∷ r) = decimal n ∷ numbers r
+
+unfoldable pub signeds : List ℤ → List (List ℕ)
+signeds [] = []
+signeds (z ∷ r) = signed z ∷ signeds r
+
+-- "plan: axes, p, moved, added, A"
+unfoldable pub planLine : PlanLists → List ℕ
+planLine a = text "plan" ++ fields (numbers (length (a .lengths) ∷ a .p ∷ moved a ∷ added a ∷ shareSize a ∷ []))
+
+-- "dim: axis, length, exponent, in plan order": the m lines from place d on
+unfoldable pub dimLines : PlanLists → ℕ → ℕ → List ℕ
+dimLines a zero d = []
+dimLines a (suc m) d = text "dim" ++ (fields (numbers (axisAt a d ∷ lengthAt a d ∷ exponentAt a d ∷ [])) ++ dimLines a m (d + 1))
+
+-- "group: mask, cells"
+unfoldable pub groupLine : List ℕ → (ℕ → ℤ) → ℕ → List ℕ
+groupLine ds array mask = text "group" ++ fields (decimal mask ∷ signeds (totals ds array mask))
+
+-- "it prints only at finish steps and passes over the rest"
+unfoldable pub lineOf : PlanLists → (ℕ → ℤ) → Move → List ℕ
+lineOf a array (expand Y) = []
+lineOf a array (transfer Y s r n) = []
+lineOf a array (finish Y) = groupLine (a .lengths) array (maskOf (gridOf a) Y)
+
+unfoldable pub groupLines : PlanLists → (ℕ → ℤ) → List Move → List ℕ
+groupLines a array [] = []
+groupLines a array (m ∷ l) = lineOf a array m ++ groupLines a array l
+
+abbrev pub groupOf : Move → ℕ
+groupOf (expand Y) = 0
+groupOf (transfer Y s r n) = 0
+groupOf (finish Y) = 1
+
+-- "end: groups printed"
+unfoldable pub groups : List Move → ℕ
+groups [] = 0
+groups (m ∷ l) = groupOf m + groups l
+
+unfoldable pub endLine : ℕ → List ℕ
+endLine n = text "end" ++ fields (decimal n ∷ [])
+
+unfoldable pub report : PlanLists → (ℕ → ℤ) → List Move → List ℕ
+report a array l = planLine a ++ (dimLines a (length (a .lengths)) 0 ++ (groupLines a array l ++ endLine (groups l)))
+
+-- "The program prints `refused N` and nothing else."
+unfoldable pub reportOr : ℕ → Campaign → List ℕ
+reportOr zero c = let a = planFor c in report a (read (c .points)) (moves (gridOf a))
+reportOr (suc n) c = text "refused" ++ fields (decimal (suc n) ∷ [])
+
+unfoldable pub printed : List ℕ → List ℕ
+printed tape = reportOr (programRefusal tape) (orEmpty (campaign tape))

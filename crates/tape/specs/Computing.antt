@@ -1,0 +1,9 @@
+-- Names every definition, so that a fact that computes with them says `unfolding computing`.
+use Prim.Native.Nat.{ℕ}
+use Rattle.tape.specs.Tapes
+use Rattle.tape.specs.Reading
+use Rattle.cube.specs.Computing as cube
+
+unfoldable pub computing : ℕ
+unfolding Tapes.little Tapes.signed32 Tapes.repeated Tapes.point Tapes.command Tapes.pointsThen Tapes.pointsOf Tapes.lengthsThen Tapes.campaignOf Tapes.campaign Reading.tooLong Reading.shortSlice Reading.readingChecks Reading.readingRefusal Reading.filledOr Reading.reading cube.computing
+computing = 0

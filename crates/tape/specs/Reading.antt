@@ -1,0 +1,44 @@
+-- Reading a tape into a lent slice: the refusals, and the slice afterwards.
+use Prim.Native.Nat.{ℕ, zero, suc}
+use mathlib.Core.Bool.{Bool, true, false}
+use mathlib.Core.Option.{Option, none, some}
+use mathlib.Core.List.{List, [], _∷_, _++_}
+use lib.Dec.{ltb}
+use lib.ListN.{length, drop}
+use lib.IntN.{ℤ}
+use Rattle.cube.specs.Checks.{Check, check, first}
+use Rattle.tape.specs.Tapes.{Campaign, campaign}
+
+-- 1. "The tape is over 65,536 bytes."
+unfoldable pub tooLong : List ℕ → Bool
+tooLong tape = ltb 65536 (length tape)
+
+-- 2. "The tape departs from its form."
+abbrev pub isNone : Option Campaign → Bool
+isNone none = true
+isNone (some c) = false
+
+-- the campaign, or an empty one where the tape departs from its form
+abbrev pub orEmpty : Option Campaign → Campaign
+orEmpty none = record { lengths = []; p = 0; points = [] }
+orEmpty (some c) = c
+
+-- 11. "the tape reader's slice is too short for the points"
+unfoldable pub shortSlice : Campaign → ℕ → Bool
+shortSlice c n = ltb n (length (c .points))
+
+unfoldable pub readingChecks : List ℕ → ℕ → List Check
+readingChecks tape slice =
+    let c = campaign tape in
+    check 1 (tooLong tape) ∷ check 2 (isNone c) ∷ check 11 (shortSlice (orEmpty c) slice) ∷ []
+
+unfoldable pub readingRefusal : List ℕ → ℕ → ℕ
+readingRefusal tape slice = first (readingChecks tape slice)
+
+-- "Reading puts the points at the start of a lent slice and does not touch the cells after them."
+unfoldable pub filledOr : ℕ → List ℤ → List ℤ → List ℤ
+filledOr zero points slice = points ++ drop (length points) slice
+filledOr (suc n) points slice = slice
+
+unfoldable pub reading : List ℕ → List ℤ → List ℤ
+reading tape slice = filledOr (readingRefusal tape (length slice)) (orEmpty (campaign tape) .points) slice
