@@ -1,10 +1,10 @@
 -- The whole list of a plan's steps.
 use Prim.Native.Nat.{ℕ, zero, suc, _+_, _-_}
-use mathlib.Core.Bool.{Bool}
 use mathlib.Core.List.{List, [], _∷_, _++_}
+use lib.Dec.{eqb}
 use Rattle.cube.specs.Boxes.{pick}
 use Rattle.cube.specs.Tree.{lastOf}
-use Rattle.boards.specs.Grids.{Grid, boards, withLabel, lead, cells}
+use Rattle.boards.specs.Grids.{Grid, maskOf, boards, withLabel, lead, cells}
 
 -- A step of the list. A choice is given by its summed-out set.
 pub data Move : Type 0 where
@@ -51,3 +51,13 @@ valuesOf (finish Y) = 0
 unfoldable pub values : List Move → ℕ
 values [] = 0
 values (m ∷ l) = valuesOf m + values l
+
+-- how many steps of a list finish the choice with a mask
+abbrev pub finishesMask : Grid → ℕ → Move → ℕ
+finishesMask g mask (expand Y) = 0
+finishesMask g mask (transfer Y s r n) = 0
+finishesMask g mask (finish Y) = pick (eqb (maskOf g Y) mask) 1 0
+
+unfoldable pub timesFinished : Grid → ℕ → List Move → ℕ
+timesFinished g mask [] = 0
+timesFinished g mask (m ∷ l) = finishesMask g mask m + timesFinished g mask l

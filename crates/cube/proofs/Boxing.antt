@@ -28,16 +28,16 @@ right-pos e (suc R) h = omega arith
 
 -- ---- boxes of m axes from d on
 
-pub rows-cong : {e e′ : ℕ → ℕ} (m d : ℕ) → ((i : ℕ) → d ≤ i → i < d + m → e i ≡ e′ i) → product e m d ≡ product e′ m d
+pub product-cong : {e e′ : ℕ → ℕ} (m d : ℕ) → ((i : ℕ) → d ≤ i → i < d + m → e i ≡ e′ i) → product e m d ≡ product e′ m d
 unfolding product
-rows-cong zero d h = refl
-rows-cong (suc m) d h = ap₂ _*_ (h d (omega arith) (omega arith)) (rows-cong m (d + 1) (λ i l r. h i (omega arith) (omega arith)))
+product-cong zero d h = refl
+product-cong (suc m) d h = ap₂ _*_ (h d (omega arith) (omega arith)) (product-cong m (d + 1) (λ i l r. h i (omega arith) (omega arith)))
 
 pub place-cong : {e e′ x x′ : ℕ → ℕ} (m d : ℕ) → ((i : ℕ) → d ≤ i → i < d + m → e i ≡ e′ i) → ((i : ℕ) → d ≤ i → i < d + m → x i ≡ x′ i) → place e x m d ≡ place e′ x′ m d
 unfolding place
 place-cong zero d h k = refl
 place-cong (suc m) d h k =
-    ap₂ _+_ (ap₂ _*_ (k d (omega arith) (omega arith)) (rows-cong m (d + 1) (λ i l r. h i (omega arith) (omega arith)))) (place-cong m (d + 1) (λ i l r. h i (omega arith) (omega arith)) (λ i l r. k i (omega arith) (omega arith)))
+    ap₂ _+_ (ap₂ _*_ (k d (omega arith) (omega arith)) (product-cong m (d + 1) (λ i l r. h i (omega arith) (omega arith)))) (place-cong m (d + 1) (λ i l r. h i (omega arith) (omega arith)) (λ i l r. k i (omega arith) (omega arith)))
 
 pub place-lt : {e x : ℕ → ℕ} (m d : ℕ) → ((i : ℕ) → d ≤ i → i < d + m → x i < e i) → place e x m d < product e m d
 unfolding place product

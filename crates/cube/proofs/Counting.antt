@@ -3,50 +3,14 @@ use Prim.Native.Nat.{ℕ, zero, suc, _+_, _-_, _*_, _≤_, _<_}
 use mathlib.Core.Path.{_≡_, sym, _∙_, refl, ap}
 use mathlib.Core.Bool.{Bool, true, false}
 use mathlib.Core.List.{List}
-use lib.Dec.{eqb}
-use borrow.Author.Tests.{eqb-true, eqb-false}
-use native.Mathlib.Nat.{le-refl, mul-pos, mul-le-mul, mul-assoc, mul-one, one-mul, le-trans, mul-le-mul-left}
+use native.Mathlib.Nat.{mul-assoc, mul-one, one-mul, le-trans, mul-le-mul-left}
 use native.Mathlib.Omega.{arith}
 use lib.ListN.{length, getD, take}
 use lib.Seq.{getD-take}
 use Rattle.cube.specs.Boxes.{pick, product}
 use Rattle.cube.specs.Choices.{keeps, lengthOf, keptLength, cells, points, Countable}
 use Rattle.cube.proofs.Sums.{by}
-
-pub product-pos : (e : ℕ → ℕ) (m d : ℕ) → ((i : ℕ) → d ≤ i → i < d + m → 0 < e i) → 0 < product e m d
-unfolding product
-product-pos e zero d h = omega arith
-product-pos e (suc m) d h = mul-pos (h d (omega arith) (omega arith)) (product-pos e m (d + 1) (λ i l r. h i (omega arith) (omega arith)))
-
-pub product-le : (e e′ : ℕ → ℕ) (m d : ℕ) → ((i : ℕ) → d ≤ i → i < d + m → e i ≤ e′ i) → product e m d ≤ product e′ m d
-unfolding product
-product-le e e′ zero d h = omega arith
-product-le e e′ (suc m) d h = mul-le-mul (h d (omega arith) (omega arith)) (product-le e e′ m (d + 1) (λ i l r. h i (omega arith) (omega arith)))
-
--- a factor is at most the product
-factor-le : (e : ℕ → ℕ) (m d i : ℕ) → ((i : ℕ) → d ≤ i → i < d + m → 0 < e i) → d ≤ i → i < d + m → e i ≤ product e m d
-unfolding product
-factor-le e zero d i h l r = absurd (omega arith)
-factor-le e (suc m) d i h l r =
-    let rest : 0 < product e m (d + 1) = product-pos e m (d + 1) (λ i l r. h i (omega arith) (omega arith)) in
-    let here : 0 < e d = h d (omega arith) (omega arith) in
-    by (eqb i d)
-    (λ t. let p = mul-le-mul-left (e d) rest in let q = mul-one (e d) in rw (eqb-true i d t) (omega arith))
-    (λ t.
-    let ne = eqb-false i d t in
-    let ih = factor-le e m (d + 1) i (λ i l r. h i (omega arith) (omega arith)) (omega (arith, ne)) (omega arith) in
-    let p = mul-le-mul here (le-refl (product e m (d + 1))) in
-    let q = one-mul (product e m (d + 1)) in
-    omega arith)
-
--- what is left to multiply, where axis d comes next
-pub product-next : (e : ℕ → ℕ) (n d : ℕ) → d < n → product e (n - d) d ≡ e d * product e (n - (d + 1)) (d + 1)
-unfolding product
-product-next e n d h = let q : n - d ≡ suc (n - (d + 1)) = omega arith in rw q
-
-pub product-none : (e : ℕ → ℕ) (n d : ℕ) → n ≤ d → product e (n - d) d ≡ 1
-unfolding product
-product-none e n d h = let q : n - d ≡ 0 = omega arith in rw q
+use Rattle.cube.proofs.Products.{product-pos, product-le, factor-le, product-next, product-none}
 
 pub kept-length : (ds : List ℕ) (mask d : ℕ) → keeps mask d ≡ true → keptLength ds mask d ≡ lengthOf ds d
 unfolding keptLength

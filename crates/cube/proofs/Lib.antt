@@ -1,5 +1,10 @@
 pub mod Sums
+pub mod Naturals
 pub mod Boxing
+pub mod Products
+pub mod Sets
+pub mod Weights
+pub mod Powers
 pub mod Portions
 pub mod Digits
 pub mod Counting

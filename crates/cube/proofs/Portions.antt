@@ -1,9 +1,10 @@
 -- The laws of the portion rule.
-use Prim.Native.Nat.{ℕ, suc, _+_, _-_, _*_, _/_, _≤_, _<_}
-use mathlib.Core.Path.{_≡_}
+use Prim.Native.Nat.{ℕ, zero, suc, _+_, _-_, _*_, _/_, _≤_, _<_}
+use mathlib.Core.Path.{_≡_, sym, _∙_}
 use native.Mathlib.Nat.{zero-mul, zero-div, mul-div-cancel-left, suc-mul, le-div-iff-mul-le, div-lt-iff-lt-mul, div-mul-le-self, lt-div-mul-add, add-mul}
 use native.Mathlib.Omega.{arith}
-use Rattle.cube.specs.Portions.{ceiling, portionStart}
+use Rattle.cube.specs.Boxes.{sumN}
+use Rattle.cube.specs.Portions.{portionStart, ceiling}
 
 module _ (D P : ℕ) (some : 0 < P) where
   pub portion-first : portionStart D P 0 ≡ 0
@@ -30,3 +31,25 @@ module _ (D P : ℕ) (some : 0 < P) where
       let t = add-mul (l * D / P) ((D + (P - 1)) / P) P in
       let r : suc l * D / P < suc (l * D / P + (D + (P - 1)) / P) = div-lt-iff-lt-mul some .1 (rw (suc-mul l D) (omega arith)) in
       omega arith
+
+  -- ---- extents
+
+  -- never empty when there are at most as many parts as positions
+  pub extent-some : P ≤ D → (l : ℕ) → 0 < portionStart D P (suc l) - portionStart D P l
+  extent-some h l = let q = portion-rising h l in omega arith
+
+  pub extent-most : (l : ℕ) → portionStart D P (suc l) - portionStart D P l ≤ ceiling D P
+  extent-most l = let q = portion-widest l in omega arith
+
+  -- the first n portions end where the next one starts
+  extents-start : P ≤ D → (n : ℕ) → sumN n (λ l. portionStart D P (suc l) - portionStart D P l) ≡ portionStart D P n
+  unfolding sumN
+  extents-start h zero = sym portion-first
+  extents-start h (suc n) =
+      let p = extents-start h n in
+      let q = portion-rising h n in
+      omega arith
+
+  -- all of them make up the axis
+  pub extents-sum : P ≤ D → sumN P (λ l. portionStart D P (suc l) - portionStart D P l) ≡ D
+  extents-sum h = extents-start h P ∙ portion-last

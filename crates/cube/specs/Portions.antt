@@ -5,9 +5,6 @@ use Prim.Native.Nat.{ℕ, _+_, _-_, _*_, _/_}
 unfoldable pub portionStart : ℕ → ℕ → ℕ → ℕ
 portionStart D m l = l * D / m
 
-unfoldable pub portionExtent : ℕ → ℕ → ℕ → ℕ
-portionExtent D m l = portionStart D m (l + 1) - portionStart D m l
-
 -- ceil(D/m): no portion is longer
 unfoldable pub ceiling : ℕ → ℕ → ℕ
 ceiling D m = (D + (m - 1)) / m

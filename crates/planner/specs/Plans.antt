@@ -1,11 +1,13 @@
 -- Plans as lists of any length, what they cost, and the machine's plan with its slots.
-use Prim.Native.Nat.{ℕ, zero, suc, _+_, _^_}
+use Prim.Native.Nat.{ℕ, zero, suc, _+_, _^_, _≤_, _<_}
+use mathlib.Core.Path.{_≡_}
 use mathlib.Core.List.{List, [], _∷_, _++_}
 use lib.Dec.{eqb}
 use lib.ListN.{length, getD, take, replicate}
 use Rattle.cube.specs.Boxes.{pick}
 use Rattle.cube.specs.Portions.{ceiling}
 use Rattle.cube.specs.Tree as Tree
+use Rattle.cube.specs.Ways.{sumList}
 use Rattle.planner.specs.declared.types.Plan.{Plan}
 
 -- "A plan holds the lengths, an order of the axes, an exponent k for each axis, and p": lengths and exponents by axis number
@@ -33,6 +35,14 @@ count a (x ∷ l) = pick (eqb x a) 1 0 + count a l
 unfoldable pub find : ℕ → List ℕ → ℕ
 find a [] = 0
 find a (x ∷ l) = pick (eqb x a) 0 (suc (find a l))
+
+-- what checks 8 and 9 ask of a plan: the order names each axis once, no axis has more portions than positions, and the exponents sum to p
+pub record Sound (a : PlanLists) : Type 0 where
+  pub places : length (a .order) ≡ length (a .lengths)
+  pub once : (d : ℕ) → d < length (a .lengths) → count d (a .order) ≡ 1
+  pub cut : (d : ℕ) → d < length (a .lengths) → 2 ^ getD (a .exponents) d 0 ≤ getD (a .lengths) d 0
+  pub each : length (a .exponents) ≡ length (a .lengths)
+  pub sums : sumList (a .exponents) ≡ a .p
 
 -- the largest extent on the axis at place d
 unfoldable pub mostAt : PlanLists → ℕ → ℕ
