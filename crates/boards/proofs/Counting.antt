@@ -13,7 +13,7 @@ use Rattle.cube.specs.Boxes.{pick, product, sumN}
 use Rattle.cube.specs.Tree as Tree
 use Rattle.cube.specs.Tree.{sent, sumOver, has, kept, lastOf, overSetsFrom}
 use Rattle.boards.specs.Grids.{gridOf, Grid, Lawful, boards, label, lead}
-use Rattle.boards.specs.Steps.{Move, each, finish, moves, sends, transfers, visit, walk}
+use Rattle.boards.specs.Steps.{TreeStep, each, finish, steps, sends, transfers, visit, walk}
 use Rattle.cube.proofs.Sums.{by}
 use Rattle.cube.proofs.Boxing.{product-cong}
 use Rattle.cube.proofs.Products.{product-zero, product-sum, product-ones}
@@ -25,7 +25,7 @@ use Rattle.planner.proofs.Orders.{exponents-sum}
 use Rattle.boards.proofs.Lawful.{grid-lawful}
 use Rattle.boards.proofs.Moving as Moving
 
-each-length : (n : ℕ) (f : ℕ → List Move) → length (each n f) ≡ sumN n (λ b. length (f b))
+each-length : (n : ℕ) (f : ℕ → List TreeStep) → length (each n f) ≡ sumN n (λ b. length (f b))
 unfolding each sumN
 each-length zero f = refl
 each-length (suc n) f = length-append (each n f) (f n) ∙ ap (λ s. s + length (f n)) (each-length n f)
@@ -73,7 +73,7 @@ module _ (g : Grid) (ok : Lawful g) where
   Taken : List ℕ → ℕ
   Taken Z = (g .parts (lastOf Z) - 1) * product (kept Z (g .parts)) (g .axes) 0
 
-  visit-length : (Y : List ℕ) (m : ℕ) (inner : List Move) → length (visit Y (suc m) inner) ≡ suc (suc (length inner))
+  visit-length : (Y : List ℕ) (m : ℕ) (inner : List TreeStep) → length (visit Y (suc m) inner) ≡ suc (suc (length inner))
   visit-length Y m inner = ap suc (length-append inner (finish Y ∷ []) ∙ (let z : length inner + 1 ≡ suc (length inner) = omega arith in z))
 
   walk-parts : (m d : ℕ) (Y : List ℕ) → length (walk g (suc m) d Y) ≡ length (walk g m (d + 1) Y) + (length (transfers g (d ∷ Y) (boards g)) + length (visit (d ∷ Y) m (walk g m (d + 1) (d ∷ Y))))
@@ -112,9 +112,9 @@ module _ (g : Grid) (ok : Lawful g) where
       let y = two-pow-succ m in
       omega arith
 
-  pub moves-count : 0 < g .axes → length (moves g) ≡ 2 ^ (g .axes - 1) + (2 ^ g .axes - 1) + overSetsFrom (λ Z. (g .parts (lastOf Z) - 1) * product (kept Z (g .parts)) (g .axes) 0) (g .axes) 0 []
-  unfolding moves Taken
-  moves-count some = go (g .axes - 1) (omega arith) (omega arith)
+  pub steps-count : 0 < g .axes → length (steps g) ≡ 2 ^ (g .axes - 1) + (2 ^ g .axes - 1) + overSetsFrom (λ Z. (g .parts (lastOf Z) - 1) * product (kept Z (g .parts)) (g .axes) 0) (g .axes) 0 []
+  unfolding steps Taken
+  steps-count some = go (g .axes - 1) (omega arith) (omega arith)
     where
       go : (m : ℕ) → suc m ≡ g .axes → m ≡ g .axes - 1 → suc (length (walk g (g .axes) 0 [])) ≡ 2 ^ (g .axes - 1) + (2 ^ g .axes - 1) + overSetsFrom (λ Z. (g .parts (lastOf Z) - 1) * product (kept Z (g .parts)) (g .axes) 0) (g .axes) 0 []
       go m e z =
@@ -129,8 +129,8 @@ unfolding boards gridOf boardCount
 board-count a ok = product-powers (exponentAt a) (length (a .lengths)) ∙ ap (λ k. 2 ^ k) (exponents-sum a ok)
 
 -- THE COUNT. T is the length of the list.
-pub moves-length : (a : PlanLists) → Sound a → 0 < length (a .lengths) → length (moves (gridOf a)) ≡ stepCount a
-moves-length a ok some = moves-count (gridOf a) (grid-lawful a ok) (unfold gridOf in some) ∙ same
+pub steps-length : (a : PlanLists) → Sound a → 0 < length (a .lengths) → length (steps (gridOf a)) ≡ stepCount a
+steps-length a ok some = steps-count (gridOf a) (grid-lawful a ok) (unfold gridOf in some) ∙ same
   where
     leads : (Z : List ℕ) → Down Z (length (a .lengths)) → product (kept Z (λ d. 2 ^ exponentAt a d)) (length (a .lengths)) 0 ≡ 2 ^ (a .p - sumOver Z (exponentAt a))
     leads Z h = kept-power (exponentAt a) (length (a .lengths)) Z h ∙ ap (λ k. 2 ^ (k - sumOver Z (exponentAt a))) (exponents-sum a ok)

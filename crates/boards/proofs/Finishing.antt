@@ -12,7 +12,7 @@ use Rattle.cube.specs.Boxes.{pick}
 use Rattle.cube.specs.Tree.{has, lastOf}
 use Rattle.boards.specs.Grids.{Grid, boards, lead}
 use Rattle.boards.specs.Held.{finishesIt, finishes, same}
-use Rattle.boards.specs.Steps.{Move, each, expand, finish, moves, sends, transfer, transfers, visit, walk}
+use Rattle.boards.specs.Steps.{TreeStep, each, expand, finish, steps, sends, transfer, transfers, visit, walk}
 use Rattle.cube.proofs.Sums.{by}
 use Rattle.cube.proofs.Naturals.{both, clash}
 use Rattle.cube.proofs.Sets.{Down, down-out, has-head, has-other}
@@ -51,12 +51,12 @@ same-differ′ Y Z e p q = by (same Y Z) (λ t. clash (sym q ∙ ap (λ Y. has Y
 
 -- ---- counting
 
-finishes-append : (Y : List ℕ) (a b : List Move) → finishes Y (a ++ b) ≡ finishes Y a + finishes Y b
+finishes-append : (Y : List ℕ) (a b : List TreeStep) → finishes Y (a ++ b) ≡ finishes Y a + finishes Y b
 unfolding finishes
 finishes-append Y [] b = sym (zero-add _)
 finishes-append Y (s ∷ a) b = ap (λ n. pick (finishesIt Y s) 1 0 + n) (finishes-append Y a b) ∙ sym (add-assoc (pick (finishesIt Y s) 1 0) (finishes Y a) (finishes Y b))
 
-finishes-each : (Y : List ℕ) (n : ℕ) (f : ℕ → List Move) → ((b : ℕ) → finishes Y (f b) ≡ 0) → finishes Y (each n f) ≡ 0
+finishes-each : (Y : List ℕ) (n : ℕ) (f : ℕ → List TreeStep) → ((b : ℕ) → finishes Y (f b) ≡ 0) → finishes Y (each n f) ≡ 0
 unfolding each
 finishes-each Y zero f h = unfold finishes in refl
 finishes-each Y (suc n) f h = finishes-append Y (each n f) (f n) ∙ ap₂ _+_ (finishes-each Y n f h) (h n)
@@ -69,11 +69,11 @@ finishes-transfers g Y Z n = finishes-each Y n _ (λ b. one b (lead g Z b))
     one b true = finishes-each Y (g .parts (lastOf Z) - 1) _ (λ l. refl)
     one b false = refl
 
-finishes-end : (Y Z : List ℕ) (inner : List Move) → finishes Y (inner ++ (finish Z ∷ [])) ≡ finishes Y inner + pick (same Y Z) 1 0
+finishes-end : (Y Z : List ℕ) (inner : List TreeStep) → finishes Y (inner ++ (finish Z ∷ [])) ≡ finishes Y inner + pick (same Y Z) 1 0
 unfolding finishes
 finishes-end Y Z inner = finishes-append Y inner (finish Z ∷ []) ∙ ap (λ n. finishes Y inner + n) (add-zero (pick (same Y Z) 1 0))
 
-finishes-visit : (Y Z : List ℕ) (m : ℕ) (inner : List Move) → finishes Y (visit Z m inner) ≡ finishes Y inner + pick (same Y Z) 1 0
+finishes-visit : (Y Z : List ℕ) (m : ℕ) (inner : List TreeStep) → finishes Y (visit Z m inner) ≡ finishes Y inner + pick (same Y Z) 1 0
 unfolding finishes
 finishes-visit Y Z zero inner = finishes-end Y Z inner
 finishes-visit Y Z (suc m) inner = zero-add (finishes Y (inner ++ (finish Z ∷ []))) ∙ finishes-end Y Z inner
@@ -182,8 +182,8 @@ walk-once g f (suc m) d n e =
         finishes-walk g (setOf f n) m d (setOf f d) ∙ ap₂ _+_ p (ap₂ _+_ q r) ∙ add-zero (any f m (d + 1)) ∙ (unfold any in rw t)
 
 -- THE FINISHES. Whichever axes f tells to sum out, if it tells any, the list of steps finishes that choice exactly once; the full array it never finishes.
-pub finished-once : (g : Grid) (f : ℕ → Bool) → finishes (setOf f (g .axes)) (moves g) ≡ any f (g .axes) 0
-unfolding moves finishes setOf
+pub finished-once : (g : Grid) (f : ℕ → Bool) → finishes (setOf f (g .axes)) (steps g) ≡ any f (g .axes) 0
+unfolding steps finishes setOf
 finished-once g f = zero-add (finishes (setOf f (g .axes)) (walk g (g .axes) 0 [])) ∙ walk-once g f (g .axes) 0 (g .axes) (zero-add (g .axes))
 
 -- ---- nothing else is finished: each finish is of axes below n, the last first
@@ -206,11 +206,11 @@ down-set (j ∷ Y) n h =
     let out : (d : ℕ) → suc j ≤ d → has (j ∷ Y) d ≡ false = λ d l. down-out (j ∷ Y) (suc j) d (omega arith, h .1) l in
     ap (setOf (has (j ∷ Y))) (sym e) ∙ set-up (has (j ∷ Y)) (n - suc j) (suc j) out ∙ set-true (has (j ∷ Y)) j (has-head j Y) ∙ ap (λ Z. j ∷ Z) (set-cong (has (j ∷ Y)) (has Y) j (λ d l. has-other j d Y (λ z. omega arith)) ∙ down-set Y j (h .1))
 
-abbrev Shape : ℕ → Move → Type 0
+abbrev Shape : ℕ → TreeStep → Type 0
 Shape n (expand Y) = Unit {0}
 Shape n (transfer Y s r k) = Unit {0}
 Shape n (finish Y) = Down Y n
 
-pub finish-down : (g : Grid) (before rest : List Move) (Y : List ℕ) → moves g ≡ before ++ (finish Y ∷ rest) → Down Y (g .axes)
+pub finish-down : (g : Grid) (before rest : List TreeStep) (Y : List ℕ) → steps g ≡ before ++ (finish Y ∷ rest) → Down Y (g .axes)
 finish-down g before rest Y e =
     every-at (Shape (g .axes)) before (finish Y) rest (rw e at (every-step (Shape (g .axes)) g (λ Y h. tt) (λ Y s r n h. tt) (λ Y h. h)))

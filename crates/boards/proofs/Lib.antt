@@ -1,7 +1,10 @@
 pub mod Lawful
 pub mod Boards
 pub mod Every
+pub mod Walking
 pub mod Finishing
 pub mod Masks
 pub mod Moving
 pub mod Counting
+pub mod Listed
+pub mod Cases

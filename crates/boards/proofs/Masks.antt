@@ -7,18 +7,21 @@ use native.Mathlib.Nat.{zero-add, mod-eq-of-lt}
 use native.Mathlib.Omega.{arith}
 use borrow.Author.Tests.{eqb-true, eqb-false, eq-eqb, ne-eqb}
 use lib.Dec.{eqb}
-use lib.ListN.{length}
+use lib.ListN.{length, getD}
 use lib.Pow.{pow-pos}
-use Rattle.cube.specs.Boxes.{pick, sumN}
-use Rattle.cube.specs.Choices.{keeps, fullMask}
-use Rattle.cube.specs.Tree.{has}
+use Rattle.cube.specs.Boxes.{pick, sumN, product}
+use Rattle.cube.specs.Choices.{keeps, fullMask, keptLength, cells}
+use Rattle.cube.specs.Tree.{has, kept, choiceCells}
 use Rattle.cube.proofs.Sums.{by}
 use Rattle.cube.proofs.Naturals.{clash, sumN-cong}
 use Rattle.cube.proofs.Digits.{powers, keeps-powers, powers-cong, powers-mod, powers-all, keeps-full}
+use Rattle.cube.proofs.Boxing.{product-cong}
+use Rattle.cube.proofs.Counting.{kept-length, summed-length}
 use Rattle.cube.proofs.Sets.{Down}
-use Rattle.planner.specs.Plans.{PlanLists, Sound}
+use Rattle.planner.specs.Plans.{PlanLists, Sound, lengthAt, find}
+use Rattle.planner.proofs.Orders.{rank-order, product-order}
 use Rattle.boards.specs.Grids.{Grid, Lawful, gridOf, maskOf}
-use Rattle.boards.specs.Steps.{Move, expand, transfer, finish, finishesMask, timesFinished, moves}
+use Rattle.boards.specs.Steps.{TreeStep, expand, transfer, finish, finishesMask, timesFinished, steps}
 use Rattle.boards.specs.Held.{same, finishesIt, finishes}
 use Rattle.boards.proofs.Lawful.{grid-lawful}
 use Rattle.boards.proofs.Every.{Every, every-step}
@@ -69,24 +72,24 @@ module _ (g : Grid) (ok : Lawful g) where
       (λ t. t ∙ sym (rw (set-mask Z mask h (eqb-true _ _ t)) (same-refl Z)))
       (λ t. t ∙ sym (by (same (setOf (summedBy mask) (g .axes)) Z) (λ s. absurd (eqb-false _ _ t (ap (maskOf g) (sym (same-true _ Z s)) ∙ mask-set mask l))) (λ s. s)))
 
-  abbrev Shape : Move → Type 0
+  abbrev Shape : TreeStep → Type 0
   Shape (expand Y) = Unit {0}
   Shape (transfer Y s r n) = Unit {0}
   Shape (finish Y) = Down Y (g .axes)
 
-  times-finishes : (mask : ℕ) → mask < 2 ^ g .axes → (l : List Move) → Every Shape l → timesFinished g mask l ≡ finishes (setOf (summedBy mask) (g .axes)) l
+  times-finishes : (mask : ℕ) → mask < 2 ^ g .axes → (l : List TreeStep) → Every Shape l → timesFinished g mask l ≡ finishes (setOf (summedBy mask) (g .axes)) l
   unfolding timesFinished finishes
   times-finishes mask h [] e = refl
   times-finishes mask h (m ∷ l) e = ap₂ _+_ (one m (e .0)) (times-finishes mask h l (e .1))
     where
-      one : (m : Move) → Shape m → finishesMask g mask m ≡ pick (finishesIt (setOf (summedBy mask) (g .axes)) m) 1 0
+      one : (m : TreeStep) → Shape m → finishesMask g mask m ≡ pick (finishesIt (setOf (summedBy mask) (g .axes)) m) 1 0
       one (expand Y) s = refl
       one (transfer Y s r n) t = refl
       one (finish Y) s = ap (λ t. pick t 1 0) (same-mask Y mask h s)
 
-  times-any : (mask : ℕ) → mask < 2 ^ g .axes → timesFinished g mask (moves g) ≡ any (summedBy mask) (g .axes) 0
+  times-any : (mask : ℕ) → mask < 2 ^ g .axes → timesFinished g mask (steps g) ≡ any (summedBy mask) (g .axes) 0
   times-any mask h =
-      times-finishes mask h (moves g) (every-step Shape g (λ Y h. tt) (λ Y s r n h. tt) (λ Y h. h)) ∙ finished-once g (summedBy mask)
+      times-finishes mask h (steps g) (every-step Shape g (λ Y h. tt) (λ Y s r n h. tt) (λ Y h. h)) ∙ finished-once g (summedBy mask)
 
   root-mask : maskOf g [] ≡ fullMask (g .axes)
   root-mask = mask-powers [] ∙ powers-cong (λ a. not (has [] (g .rank a))) (λ a. true) (g .axes) all ∙ powers-all (g .axes)
@@ -116,12 +119,32 @@ module _ (g : Grid) (ok : Lawful g) where
   none-summed = none-any (summedBy (fullMask (g .axes))) (g .axes) 0 (g .axes) (zero-add _) (λ d h. unfold summedBy in ap not (keeps-full (g .axes) (g .order d) (ok .order-lt d h)))
 
   -- EACH CHOICE BUT THE FULL ONE IS FINISHED EXACTLY ONCE, and the full one never.
-  pub finished-exactly-once : (mask : ℕ) → mask < fullMask (g .axes) → timesFinished g mask (moves g) ≡ 1
+  pub finished-exactly-once : (mask : ℕ) → mask < fullMask (g .axes) → timesFinished g mask (steps g) ≡ 1
   finished-exactly-once mask h = times-any mask (let q : mask < 2 ^ g .axes - 1 = (unfold fullMask in h) in omega arith) ∙ some-summed mask h
 
-  pub full-never-finished : timesFinished g (fullMask (g .axes)) (moves g) ≡ 0
+  pub full-never-finished : timesFinished g (fullMask (g .axes)) (steps g) ≡ 0
   full-never-finished = times-any (fullMask (g .axes)) (let p = pow-pos (g .axes) in (unfold fullMask in omega arith)) ∙ none-summed
 
 -- for every sound plan
-pub each-choice-once : (a : PlanLists) → Sound a → (mask : ℕ) → mask < fullMask (length (a .lengths)) → timesFinished (gridOf a) mask (moves (gridOf a)) ≡ 1
+pub each-choice-once : (a : PlanLists) → Sound a → (mask : ℕ) → mask < fullMask (length (a .lengths)) → timesFinished (gridOf a) mask (steps (gridOf a)) ≡ 1
 each-choice-once a ok mask h = finished-exactly-once (gridOf a) (grid-lawful a ok) mask (unfold gridOf in h)
+
+-- THE CELLS OF A CHOICE, by its mask over the axes and by its summed-out set over the plan, are the same number.
+pub cells-joined : (a : PlanLists) → Sound a → (Y : List ℕ) → cells (a .lengths) (maskOf (gridOf a) Y) ≡ choiceCells (length (a .lengths)) (lengthAt a) Y
+cells-joined a ok Y = sym (places ∙ product-order a ok axis ∙ axes)
+  where
+    axis : ℕ → ℕ
+    axis x = pick (has Y (find x (a .order))) 1 (getD (a .lengths) x 0)
+
+    places : choiceCells (length (a .lengths)) (lengthAt a) Y ≡ product (λ d. axis (getD (a .order) d 0)) (length (a .lengths)) 0
+    places = unfold choiceCells kept in product-cong (length (a .lengths)) 0 (λ d l r. ap (λ y. pick (has Y y) 1 (lengthAt a d)) (sym (rank-order a ok d (omega arith))))
+
+    kept-or : (x : ℕ) → x < length (a .lengths) → axis x ≡ keptLength (a .lengths) (maskOf (gridOf a) Y) x
+    kept-or x h =
+        let e : keeps (maskOf (gridOf a) Y) x ≡ not (has Y (find x (a .order))) = (unfold gridOf in keeps-mask (gridOf a) (grid-lawful a ok) Y x (unfold gridOf in h)) in
+        by (has Y (find x (a .order)))
+        (λ t. rw t (sym (summed-length (a .lengths) _ x (e ∙ ap not t))))
+        (λ t. rw t (sym (kept-length (a .lengths) _ x (e ∙ ap not t))))
+
+    axes : product axis (length (a .lengths)) 0 ≡ cells (a .lengths) (maskOf (gridOf a) Y)
+    axes = unfold cells in product-cong (length (a .lengths)) 0 (λ x l r. kept-or x (omega arith))

@@ -12,7 +12,7 @@ use Rattle.cube.specs.Boxes.{pick, position, product, sumN}
 use Rattle.cube.specs.Tree as Tree
 use Rattle.cube.specs.Tree.{choiceCells, sent, has, kept, lastOf, overSetsFrom}
 use Rattle.boards.specs.Grids.{gridOf, Grid, Lawful, boards, box, cells, extent, label, lead, withLabel}
-use Rattle.boards.specs.Steps.{Move, each, finish, moves, sends, transfer, transfers, values, valuesOf, visit, walk}
+use Rattle.boards.specs.Steps.{TreeStep, each, finish, steps, sends, transfer, transfers, values, valuesOf, visit, walk}
 use Rattle.cube.proofs.Sums.{by}
 use Rattle.cube.proofs.Boxing.{product-cong}
 use Rattle.cube.proofs.Products.{product-zero, product-sum}
@@ -83,12 +83,12 @@ module _ (g : Grid) (ok : Lawful g) where
 
   -- ---- the valuesOf that transfers move
 
-  values-append : (a b : List Move) → values (a ++ b) ≡ values a + values b
+  values-append : (a b : List TreeStep) → values (a ++ b) ≡ values a + values b
   unfolding values
   values-append [] b = sym (zero-add (values b))
   values-append (s ∷ a) b = ap (λ n. valuesOf s + n) (values-append a b) ∙ sym (add-assoc (valuesOf s) (values a) (values b))
 
-  values-each : (n : ℕ) (f : ℕ → List Move) → values (each n f) ≡ sumN n (λ b. values (f b))
+  values-each : (n : ℕ) (f : ℕ → List TreeStep) → values (each n f) ≡ sumN n (λ b. values (f b))
   unfolding each sumN
   values-each zero f = unfold values in refl
   values-each (suc n) f = values-append (each n f) (f n) ∙ ap (λ s. s + values (f n)) (values-each n f)
@@ -111,7 +111,7 @@ module _ (g : Grid) (ok : Lawful g) where
       one b u true = values-sends Y b j (g .parts j - 1) u (let q = ok .some j (h .0) in omega arith)
       one b u false = unfold values in sym (mul-zero (g .parts j - 1))
 
-  values-visit : (Y : List ℕ) (m : ℕ) (inner : List Move) → values (visit Y m inner) ≡ values inner
+  values-visit : (Y : List ℕ) (m : ℕ) (inner : List TreeStep) → values (visit Y m inner) ≡ values inner
   unfolding values
   values-visit Y zero inner = values-append inner (finish Y ∷ []) ∙ add-zero (values inner)
   values-visit Y (suc m) inner = zero-add (values (inner ++ (finish Y ∷ []))) ∙ values-append inner (finish Y ∷ []) ∙ add-zero (values inner)
@@ -123,15 +123,15 @@ module _ (g : Grid) (ok : Lawful g) where
       values-append (walk g m (d + 1) Y) _ ∙ ap₂ _+_ (values-walk m (d + 1) Y (omega arith) (down-up Y d (d + 1) (omega arith) h)) (values-append (transfers g (d ∷ Y) (boards g)) _ ∙ ap₂ _+_ (values-transfers Y d (omega arith, h)) (values-visit (d ∷ Y) m (walk g m (d + 1) (d ∷ Y)) ∙ values-walk m (d + 1) (d ∷ Y) (omega arith) (omega arith, h)))
 
 -- THE VALUES MOVED. The transfers of the whole list move as many values as the price says.
-pub values-moved : (a : PlanLists) → Sound a → values (moves (gridOf a)) ≡ moved a
+pub values-moved : (a : PlanLists) → Sound a → values (steps (gridOf a)) ≡ moved a
 values-moved a ok =
     start ∙ values-walk g (grid-lawful a ok) (g .axes) 0 [] (zero-add (g .axes)) tt ∙ same
   where
     g : Grid
     g = gridOf a
 
-    start : values (moves (gridOf a)) ≡ values (walk (gridOf a) ((gridOf a) .axes) 0 [])
-    start = unfold moves values in zero-add _
+    start : values (steps (gridOf a)) ≡ values (walk (gridOf a) ((gridOf a) .axes) 0 [])
+    start = unfold steps values in zero-add _
 
     same : overSetsFrom (λ Z. ((gridOf a) .parts (lastOf Z) - 1) * product (kept Z ((gridOf a) .len)) ((gridOf a) .axes) 0) ((gridOf a) .axes) 0 [] ≡ moved a
     same = unfold gridOf moved Tree.moved choiceCells sent in over-cong _ _ (length (a .lengths)) 0 (length (a .lengths)) [] (zero-add _) tt (λ Z h. mul-comm _ _)

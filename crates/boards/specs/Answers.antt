@@ -5,7 +5,7 @@ use mathlib.Core.List.{List, [], _∷_, _++_}
 use lib.Dec.{ltb, leb}
 use Rattle.cube.specs.Checks.{Check, check, first, Reply, gives, refuses, answered}
 use Rattle.planner.specs.Plans.{PlanLists, boardCount, stepCount, listsOf}
-use Rattle.planner.specs.Refusals.{planChecks}
+use Rattle.planner.specs.Refusals.{planChecks, planRefusal}
 use Rattle.planner.specs.declared.types.Plan.{Plan}
 use Rattle.boards.specs.declared.types.Step.{Step}
 use Rattle.boards.specs.declared.types.Step.the-variants as Step′
@@ -14,7 +14,7 @@ use Rattle.boards.specs.declared.types.Held.the-variants as Held′
 use Rattle.boards.specs.declared.types.Counted.{Counted}
 use Rattle.boards.specs.declared.types.Counted.the-variants as Counted′
 use Rattle.boards.specs.Grids.{Grid, gridOf, maskOf}
-use Rattle.boards.specs.Steps.{Move, expand, transfer, finish}
+use Rattle.boards.specs.Steps.{TreeStep, expand, transfer, finish}
 use Rattle.boards.specs.Held as Held
 
 -- ---- steps
@@ -36,7 +36,7 @@ told Step′.Done = done
 told (Step′.Refused n) = refused n
 
 -- what is to be told of a step of the list
-abbrev pub telling : Grid → Move → Told
+abbrev pub telling : Grid → TreeStep → Told
 telling g (expand Y) = expands (maskOf g Y)
 telling g (transfer Y s r n) = transfers s r (maskOf g Y) n
 telling g (finish Y) = finishes (maskOf g Y)
@@ -56,9 +56,6 @@ heldChecks q at b = planChecks q ++ (check 12 (pastEnd (listsOf q) at || noBoard
 unfoldable pub heldRefusal : Plan → ℕ → ℕ → ℕ
 heldRefusal q at b = first (heldChecks q at b)
 
-unfoldable pub countRefusal : Plan → ℕ
-countRefusal q = first (planChecks q)
-
 -- ---- the answers
 
 abbrev pub heldReply : Held → Reply ℕ
@@ -75,4 +72,4 @@ holding q at b = answered (heldRefusal q at b) (Held.held (gridOf (listsOf q)) a
 
 -- T, or the refusal
 unfoldable pub counting : Plan → Reply ℕ
-counting q = answered (countRefusal q) (stepCount (listsOf q))
+counting q = answered (planRefusal q) (stepCount (listsOf q))

@@ -1,9 +1,10 @@
 -- The controller's planning, over bytes.
-use Prim.Native.Nat.{ℕ, zero, suc, _+_, _*_, _/_, _%_}
+use Prim.Native.Nat.{ℕ, zero, suc, _*_, _%_}
 use mathlib.Core.Bool.{Bool, _||_, not}
 use mathlib.Core.List.{List, [], _∷_, _++_}
 use lib.Dec.{eqb}
 use lib.ListN.{length}
+use Rattle.cube.specs.Bytes.{little}
 use Rattle.cube.specs.Checks.{Check, check, first}
 use Rattle.planner.specs.Rule.{order, orderedExponents}
 use Rattle.planner.specs.Refusals.{planningChecks}
@@ -12,7 +13,7 @@ use Rattle.planner.specs.Refusals.{planningChecks}
 unfoldable pub pairs : List ℕ → List ℕ
 pairs [] = []
 pairs (a ∷ []) = []
-pairs (a ∷ b ∷ r) = (a + 256 * b) ∷ pairs r
+pairs (a ∷ b ∷ r) = little (a ∷ b ∷ []) ∷ pairs r
 
 -- 3. ".. or an odd number of length bytes."
 unfoldable pub oddBytes : List ℕ → Bool

@@ -5,12 +5,15 @@ use mathlib.Core.Bool.{Bool, true, false}
 use mathlib.Core.List.{List}
 use native.Mathlib.Nat.{mul-assoc, mul-one, one-mul, le-trans, mul-le-mul-left}
 use native.Mathlib.Omega.{arith}
-use lib.ListN.{length, getD, take}
-use lib.Seq.{getD-take}
-use Rattle.cube.specs.Boxes.{pick, product}
-use Rattle.cube.specs.Choices.{keeps, lengthOf, keptLength, cells, points, Countable}
+use lib.ListN.{length}
+use lib.Pow.{pow-pos}
+use Rattle.cube.specs.Limits.{pointLimit}
+use Rattle.cube.specs.Boxes.{product}
+use Rattle.cube.specs.Choices.{keeps, fullMask, grandMask, lengthOf, keptLength, cells, points, Countable}
 use Rattle.cube.proofs.Sums.{by}
-use Rattle.cube.proofs.Products.{product-pos, product-le, factor-le, product-next, product-none}
+use Rattle.cube.proofs.Boxing.{product-cong}
+use Rattle.cube.proofs.Products.{product-pos, product-le, product-ones, factor-le, product-next, product-none}
+use Rattle.cube.proofs.Digits.{keeps-past, keeps-full}
 
 pub kept-length : (ds : List ℕ) (mask d : ℕ) → keeps mask d ≡ true → keptLength ds mask d ≡ lengthOf ds d
 unfolding keptLength
@@ -43,7 +46,7 @@ module _ (ds : List ℕ) (n mask : ℕ) (ok : Countable ds n) where
   unfolding cells
   count-start = let q = ok .each in let z : n - 0 ≡ n = omega arith in rw (one-mul, z, ← q)
 
-  pub cells-small : cells ds mask ≤ 16777216
+  pub cells-small : cells ds mask ≤ pointLimit
   unfolding cells points
   cells-small =
       let s = ok .small in
@@ -59,7 +62,7 @@ module _ (ds : List ℕ) (n mask : ℕ) (ok : Countable ds n) where
     count-summed t = rw (product-next (keptLength ds mask) n d h, summed-length ds mask d t, one-mul) at e
 
     -- so far the count is at most the cells
-    pub count-fits : keeps mask d ≡ true → count * lengthOf ds d ≤ 16777216
+    pub count-fits : keeps mask d ≡ true → count * lengthOf ds d ≤ pointLimit
     count-fits t =
         let q = count-kept t in
         let s = cells-small in
@@ -71,9 +74,19 @@ module _ (ds : List ℕ) (n mask : ℕ) (ok : Countable ds n) where
   count-end d count h e = rw (product-none (keptLength ds mask) n d h, mul-one) at e
 
   -- no length passes the points
-  pub length-small : (d : ℕ) → d < n → lengthOf ds d ≤ 16777216
+  pub length-small : (d : ℕ) → d < n → lengthOf ds d ≤ pointLimit
   unfolding points
   length-small d h =
       let q = ok .each in
       let s = ok .small in
       le-trans (factor-le (lengthOf ds) (length ds) 0 d (λ i l r. ok .some i (omega arith)) (omega arith) (omega arith)) s
+
+-- "The grand total, which keeps no axis, has .. one cell."
+pub grand-cell : (ds : List ℕ) → cells ds grandMask ≡ 1
+unfolding cells
+grand-cell ds = product-ones (keptLength ds grandMask) (length ds) 0 (λ d l r. summed-length ds 0 d (keeps-past 0 d (pow-pos d)))
+
+-- the full choice's cells are the points
+pub full-cells : (ds : List ℕ) → cells ds (fullMask (length ds)) ≡ points ds
+unfolding cells points
+full-cells ds = product-cong (length ds) 0 (λ d l r. kept-length ds (fullMask (length ds)) d (keeps-full (length ds) d (omega arith)))

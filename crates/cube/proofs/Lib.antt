@@ -8,3 +8,4 @@ pub mod Powers
 pub mod Portions
 pub mod Digits
 pub mod Counting
+pub mod Cases

@@ -53,3 +53,11 @@ module _ (D P : ℕ) (some : 0 < P) where
   -- all of them make up the axis
   pub extents-sum : P ≤ D → sumN P (λ l. portionStart D P (suc l) - portionStart D P l) ≡ D
   extents-sum h = extents-start h P ∙ portion-last
+
+  -- "exactly then each board has a point": where no portion is empty there are at most as many as positions
+  pub parts-le : ((l : ℕ) → l < P → portionStart D P l < portionStart D P (suc l)) → P ≤ D
+  parts-le h = let q = starts P (λ l r. h l r) in let e = portion-last in omega arith
+    where
+      starts : (n : ℕ) → ((l : ℕ) → l < n → portionStart D P l < portionStart D P (suc l)) → n ≤ portionStart D P n
+      starts zero h = omega arith
+      starts (suc n) h = let q = h n (omega arith) in let r = starts n (λ l u. h l (omega arith)) in omega arith

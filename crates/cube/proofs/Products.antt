@@ -3,6 +3,7 @@ use Prim.Native.Nat.{ℕ, zero, suc, _+_, _-_, _*_, _≤_, _<_}
 use mathlib.Core.Path.{_≡_, sym, _∙_, refl, ap, ap₂}
 use mathlib.Core.Bool.{Bool, true, false}
 use native.Mathlib.Nat.{add-zero, mul-pos, mul-le-mul, mul-assoc, mul-one, one-mul, zero-mul, mul-zero, le-refl, mul-le-mul-left}
+use native.Mathlib.Numerals.{add-one}
 use native.Mathlib.Omega.{arith}
 use borrow.Author.Tests.{eqb-true, eqb-false, eq-eqb, ne-eqb}
 use lib.Dec.{eqb}
@@ -49,6 +50,28 @@ factor-le e (suc m) d i h l r =
     let p = mul-le-mul here (le-refl (product e m (d + 1))) in
     let q = one-mul (product e m (d + 1)) in
     omega arith)
+
+-- one factor c times as large
+pub product-scale : (e e′ : ℕ → ℕ) (c j m d : ℕ) → d ≤ j → j < d + m → e′ j ≡ c * e j → ((i : ℕ) → (i ≡ j → ⊥) → e′ i ≡ e i) → product e′ m d ≡ c * product e m d
+unfolding product
+product-scale e e′ c j zero d l r h same = absurd (omega arith)
+product-scale e e′ c j (suc m) d l r h same =
+    by (eqb j d)
+    (λ t.
+    let q = eqb-true j d t in
+    let rest : product e′ m (d + 1) ≡ product e m (d + 1) = product-cong m (d + 1) (λ i l r. same i (λ z. omega arith)) in
+    rw (← q, h, q, rest) (mul-assoc c (e d) (product e m (d + 1))))
+    (λ t.
+    let ne = eqb-false j d t in
+    let ih = product-scale e e′ c j m (d + 1) (omega (arith, ne)) (omega arith) h same in
+    let here = same d (λ z. ne (sym z)) in
+    rw (here, ih) (omega arith))
+
+-- the same factors, numbered from one later
+pub product-shift : (e : ℕ → ℕ) (m d : ℕ) → product (λ i. e (suc i)) m d ≡ product e m (d + 1)
+unfolding product
+product-shift e zero d = refl
+product-shift e (suc m) d = ap₂ _*_ (ap e (sym (add-one d))) (product-shift e m (d + 1))
 
 -- a box in two pieces
 pub product-append : (e : ℕ → ℕ) (a b d : ℕ) → product e (a + b) d ≡ product e a d * product e b (d + a)

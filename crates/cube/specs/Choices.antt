@@ -6,6 +6,7 @@ use mathlib.Core.List.{List}
 use lib.Dec.{eqb}
 use lib.ListN.{length, getD}
 use lib.IntN.{ℤ, pos}
+use Rattle.cube.specs.Limits.{axisLimit, pointLimit}
 use Rattle.cube.specs.Boxes.{pick, sumZ, table, product, position}
 
 -- "A choice is the set of kept axes, written as a one-byte mask with bit d set when axis d is kept."
@@ -50,21 +51,21 @@ unfoldable pub cellPosition : List ℕ → ℕ → ℕ → ℕ → ℕ
 cellPosition ds mask c d = position (keptLength ds mask) (length ds) 0 c d
 
 -- does point q share the positions x on each of the first m axes that is kept?
-unfoldable pub shares : List ℕ → ℕ → ℕ → (ℕ → ℕ) → ℕ → Bool
-shares ds mask q x zero = true
-shares ds mask q x (suc m) = (not (keeps mask m) || eqb (pointPosition ds q m) (x m)) && shares ds mask q x m
+unfoldable pub agrees : List ℕ → ℕ → ℕ → (ℕ → ℕ) → ℕ → Bool
+agrees ds mask q x zero = true
+agrees ds mask q x (suc m) = (not (keeps mask m) || eqb (pointPosition ds q m) (x m)) && agrees ds mask q x m
 
--- "each total is the exact sum of all points that share its positions": over all points, those that share the positions x on the kept axes
+-- Demand 2, "each total is the exact sum of all points that share its positions": over all points, those that share the positions x on the kept axes
 unfoldable pub total : List ℕ → (ℕ → ℤ) → ℕ → (ℕ → ℕ) → ℤ
-total ds array mask x = sumZ (points ds) (λ q. pick (shares ds mask q x (length ds)) (array q) (pos 0))
+total ds array mask x = sumZ (points ds) (λ q. pick (agrees ds mask q x (length ds)) (array q) (pos 0))
 
 -- all totals of a choice, row-major in axis order
 unfoldable pub totals : List ℕ → (ℕ → ℤ) → ℕ → List ℤ
 totals ds array mask = table (cells ds mask) (λ c. total ds array mask (cellPosition ds mask c))
 
--- lengths whose choices can be counted by the machine: n of them, none 0, within the paper's limits
+-- lengths whose choices can be counted by the machine: n of them, none 0, within the limits of axes and points
 pub record Countable (ds : List ℕ) (n : ℕ) : Type 0 where
-  pub eight : n ≤ 8
+  pub few : n ≤ axisLimit
   pub each : length ds ≡ n
   pub some : (d : ℕ) → d < n → 0 < lengthOf ds d
-  pub small : points ds ≤ 16777216
+  pub small : points ds ≤ pointLimit

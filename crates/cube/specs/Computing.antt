@@ -1,5 +1,7 @@
 -- Names every definition, so that a fact that computes with them says `unfolding computing`.
 use Prim.Native.Nat.{ℕ}
+use Rattle.cube.specs.Limits
+use Rattle.cube.specs.Bytes
 use Rattle.cube.specs.Boxes
 use Rattle.cube.specs.Choices
 use Rattle.cube.specs.Portions
@@ -8,5 +10,5 @@ use Rattle.cube.specs.Ways
 use Rattle.cube.specs.Checks
 
 unfoldable pub computing : ℕ
-unfolding Boxes.sumN Boxes.sumZ Boxes.tableFrom Boxes.put Boxes.product Boxes.place Boxes.position Choices.keeps Choices.fullMask Choices.withoutMask Choices.withMask Choices.keptLength Choices.cells Choices.points Choices.pointPosition Choices.cellPosition Choices.shares Choices.total Choices.totals Portions.portionStart Portions.ceiling Tree.has Tree.childrenFrom Tree.children Tree.kept Tree.choiceCells Tree.overSetsFrom Tree.sent Tree.moved Tree.added Tree.weight Tree.weighted Tree.regionSize Tree.regionStart Tree.shareSize Tree.sumOver Tree.stepCount Ways.sumList Ways.costBy Ways.movedBy Ways.addedBy Ways.halvings Ways.log2 Ways.room Checks.first Checks.answered
+unfolding Limits.padded Bytes.little Boxes.sumN Boxes.sumZ Boxes.tableFrom Boxes.put Boxes.product Boxes.place Boxes.position Choices.keeps Choices.fullMask Choices.withoutMask Choices.withMask Choices.keptLength Choices.cells Choices.points Choices.pointPosition Choices.cellPosition Choices.agrees Choices.total Choices.totals Portions.portionStart Portions.ceiling Tree.has Tree.childrenFrom Tree.children Tree.kept Tree.choiceCells Tree.overSetsFrom Tree.sent Tree.moved Tree.added Tree.weight Tree.weighted Tree.regionSize Tree.regionStart Tree.shareSize Tree.sumOver Tree.stepCount Ways.sumList Ways.costBy Ways.movedBy Ways.addedBy Ways.halvings Ways.log2 Ways.room Checks.first Checks.answered
 computing = 0

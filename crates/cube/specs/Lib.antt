@@ -1,3 +1,5 @@
+pub mod Limits
+pub mod Bytes
 pub mod Boxes
 pub mod Choices
 pub mod Portions

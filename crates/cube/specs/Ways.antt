@@ -26,11 +26,11 @@ pub record Division (ds : List ℕ) (p : ℕ) : Type 0 where
   pub fits : (d : ℕ) → d < length ds → 2 ^ getD exponents d 0 ≤ lengthOf ds d
   pub sums : sumList exponents ≡ p
 
--- "A way with a division moves, summed over every choice but the full one, its cells × (2^k − 1), with k that of the one axis its parent has more"
--- `price` is what a moved value costs for each axis that may be summed: here 1.
+-- The cost of a way with a division: over every choice but the full one, its cells × (2^k − 1), each moved value at a price for the axis that is summed.
 unfoldable pub costBy : (price : ℕ → ℕ) (ds : List ℕ) {p : ℕ} → Division ds p → Way (length ds) → ℕ
 costBy price ds e w = sumN (fullMask (length ds)) (λ mask. cells ds mask * sent (getD (e .exponents) (w .axis mask) 0) * price (w .axis mask))
 
+-- "A way with a division moves, summed over every choice but the full one, its cells × (2^k − 1), with k that of the one axis its parent has more": a value costs 1
 unfoldable pub movedBy : (ds : List ℕ) {p : ℕ} → Division ds p → Way (length ds) → ℕ
 movedBy ds e w = costBy (λ d. 1) ds e w
 

@@ -1,7 +1,9 @@
 ghost use mathlib.Core.Path.{_≡_};
 ghost use Prim.Native.Nat.{_^_, _<_, min};
 ghost use lib.ListN.{take};
-ghost use Rattle.cube.specs.Choices.{keeps, fullMask, withoutMask, cells, Countable};
+ghost use lib.Dec.{eqb};
+ghost use Rattle.cube.specs.Limits.{axisLimit};
+ghost use Rattle.cube.specs.Choices.{keeps, fullMask, withoutMask, grandMask, cells, Countable};
 
 // A choice: the set of kept axes, bit d of the mask for axis d.
 pub struct Choice {
@@ -47,13 +49,20 @@ impl Choice {
 
     // The choice that keeps all axes, of which there are at most 8.
     pub fn full(axes: u8) -> Choice
-        ensures { λ r. ⌜ r .mask ≡ fullMask (min axes 8) ⌝ }
+        ensures { λ r. ⌜ r .mask ≡ fullMask (min axes axisLimit) ⌝ }
     {
         if 8 <= axes {
             return Choice { mask: 255 };
         }
         let b = bit(axes);
         Choice { mask: b - 1 }
+    }
+
+    // Is this the grand total?
+    pub fn is_grand(self) -> bool
+        ensures { λ r. ⌜ r ≡ eqb (self .mask) grandMask ⌝ }
+    {
+        self.mask == Choice::GRAND.mask
     }
 
     // Is an axis kept?

@@ -12,7 +12,7 @@ use Rattle.planner.specs.Plans.{PlanLists, shareSize, boardCount, listsOf}
 use Rattle.planner.specs.Refusals.{planChecks}
 use Rattle.planner.specs.declared.types.Plan.{Plan}
 use Rattle.boards.specs.Grids.{Grid, gridOf, maskOf}
-use Rattle.boards.specs.Steps.{Move, moves}
+use Rattle.boards.specs.Steps.{TreeStep, steps}
 use Rattle.boards.specs.Held.{finishedAt}
 use Rattle.boards.specs.Answers.{Told, done, refused, telling, pastEnd, noBoard}
 use Rattle.engine.specs.Memory.{read, stepped}
@@ -64,13 +64,13 @@ abbrev pub outcome : Told → List ℤ → ℕ → Outcome
 outcome t w at = record { says = t; work = w; position = at }
 
 -- "any other takes exactly the next step, and done is answered at T only"
-unfoldable pub taken : Grid → List ℤ → List ℤ → ℕ → Option Move → Outcome
+unfoldable pub taken : Grid → List ℤ → List ℤ → ℕ → Option TreeStep → Outcome
 taken g array work at none = outcome done work at
 taken g array work at (some m) = outcome (telling g m) (stepped g array m work) (at + 1)
 
 -- "A refused call .. moves nothing and leaves the position"
 unfoldable pub stepOr : ℕ → Grid → List ℤ → List ℤ → ℕ → Outcome
-stepOr zero g array work at = taken g array work at (getElem? (moves g) at)
+stepOr zero g array work at = taken g array work at (getElem? (steps g) at)
 stepOr (suc n) g array work at = outcome (refused (suc n)) work at
 
 unfoldable pub stepRefusal : Plan → ℕ → ℕ → ℕ → ℕ

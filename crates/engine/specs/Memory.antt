@@ -11,7 +11,7 @@ use mir.Val.{toZ}
 use Rattle.cube.specs.Boxes.{pick, sumZ, table, put, product, place, position}
 use Rattle.cube.specs.Tree.{lastOf, next}
 use Rattle.boards.specs.Grids.{Grid, boards, lead, extent, box, cells, global, index, boardOf, regionOf, cellOf, cellAt}
-use Rattle.boards.specs.Steps.{Move, expand, transfer, finish}
+use Rattle.boards.specs.Steps.{TreeStep, expand, transfer, finish}
 
 -- ---- "Sums in a step are taken modulo 2^64"
 
@@ -42,12 +42,12 @@ unfoldable pub formed : Grid → (ℕ → ℤ) → (ℕ → ℤ) → List ℕ �
 formed g array work Y b j c =
     wrapped (sumZ (extent g b j) (λ m. source g array work Y b (put (position (box g (j ∷ Y) b) (g .axes) 0 c) j m)))
 
--- is cell c of region i of board b one of a child of Y?
+-- is b a board that is a lead of Y, and cell c of its region i one of a child of Y?
 unfoldable pub forms : Grid → List ℕ → ℕ → ℕ → ℕ → Bool
 forms g Y b i c = ltb b (boards g) && (lead g Y b && (leb (next Y) i && ltb c (cells g (i ∷ Y) b)))
 
 -- ---- every cell after a step, by its index: "Cells of the work area that a step does not write keep their contents."
-unfoldable pub after : Grid → (ℕ → ℤ) → Move → (ℕ → ℤ) → (ℕ → ℤ)
+unfoldable pub after : Grid → (ℕ → ℤ) → TreeStep → (ℕ → ℤ) → (ℕ → ℤ)
 after g array (expand Y) work i =
     pick (forms g Y (boardOf g i) (regionOf g i) (cellOf g i)) (formed g array work Y (boardOf g i) (regionOf g i) (cellOf g i)) (work i)
 after g array (transfer Y s r n) work i =
@@ -59,9 +59,9 @@ abbrev pub read : List ℤ → ℕ → ℤ
 read l i = getD l i (pos 0)
 
 -- the whole work area after a step, and after a list of steps
-unfoldable pub stepped : Grid → List ℤ → Move → List ℤ → List ℤ
+unfoldable pub stepped : Grid → List ℤ → TreeStep → List ℤ → List ℤ
 stepped g array m work = table (length work) (after g (read array) m (read work))
 
-unfoldable pub ran : Grid → List ℤ → List Move → List ℤ → List ℤ
+unfoldable pub ran : Grid → List ℤ → List TreeStep → List ℤ → List ℤ
 ran g array [] work = work
 ran g array (m ∷ l) work = ran g array l (stepped g array m work)

@@ -1,15 +1,17 @@
 -- An order that names each axis once is a permutation.
-use Prim.Native.Nat.{ℕ, zero, suc, _+_, _≤_, _<_}
+use Prim.Native.Nat.{ℕ, zero, suc, _+_, _*_, _^_, _≤_, _<_}
 use mathlib.Core.Path.{_≡_, sym, _∙_, refl, ap, ap₂}
 use mathlib.Core.List.{List, [], _∷_}
-use native.Mathlib.Nat.{mul-one}
+use native.Mathlib.Nat.{mul-one, zero-add, pow-zero, pow-succ'}
 use native.Mathlib.Omega.{arith}
 use borrow.Author.Tests.{eqb-true, eqb-false, eq-eqb, ne-eqb, ltb-true, ltb-false}
 use lib.Dec.{eqb, ltb}
 use lib.ListN.{length, getD}
-use Rattle.cube.specs.Boxes.{pick, sumN}
+use Rattle.cube.specs.Boxes.{pick, sumN, product}
 use Rattle.cube.specs.Ways.{sumList}
 use Rattle.cube.proofs.Sums.{by}
+use Rattle.cube.proofs.Boxing.{product-cong}
+use Rattle.cube.proofs.Products.{product-ones, product-scale, product-shift}
 use Rattle.cube.proofs.Naturals.{sumN-cong, sumN-zero, sumN-add, sumN-swap, sumN-only, sumN-miss, sumN-same, sumN-first}
 use Rattle.planner.specs.Plans.{PlanLists, Sound, count, find, exponentAt}
 
@@ -68,10 +70,39 @@ find-get (x ∷ l) (suc d) h e =
     (λ t. absurd (let z : 1 + count (getD l d 0) l ≡ 1 = (rw t at e) in omega arith))
     (λ t. let z : 0 + count (getD l d 0) l ≡ 1 = (rw t at e) in rw t (ap suc (find-get l d (omega arith) (omega arith))))
 
+power-one : (x : ℕ) → x ^ 1 ≡ x
+power-one x = pow-succ' x 0 ∙ ap (λ y. x * y) (pow-zero x) ∙ mul-one x
+
 pub sum-list : (l : List ℕ) → sumList l ≡ sumN (length l) (λ i. getD l i 0)
 unfolding sumList sumN
 sum-list [] = refl
 sum-list (x ∷ l) = ap (λ s. x + s) (sum-list l) ∙ sym (sumN-first (length l) (λ i. getD (x ∷ l) i 0))
+
+-- ---- products over the elements of a list
+
+products : List ℕ → (ℕ → ℕ) → ℕ
+products [] f = 1
+products (x ∷ l) f = f x * products l f
+
+products-places : (l : List ℕ) (f : ℕ → ℕ) → products l f ≡ product (λ d. f (getD l d 0)) (length l) 0
+unfolding products product
+products-places [] f = refl
+products-places (x ∷ l) f = ap (λ y. f x * y) (products-places l f ∙ product-shift (λ d. f (getD (x ∷ l) d 0)) (length l) 0)
+
+-- each number below n counts as often as it stands in the list
+products-count : (l : List ℕ) (f : ℕ → ℕ) (n : ℕ) → ((d : ℕ) → d < length l → getD l d 0 < n) → product (λ a. f a ^ count a l) n 0 ≡ products l f
+unfolding products count
+products-count [] f n h = product-ones (λ a. f a ^ 0) n 0 (λ a l r. pow-zero (f a))
+products-count (x ∷ l) f n h =
+    let ih = products-count l f n (λ d r. h (suc d) (omega arith)) in
+    let x< = h 0 (omega arith) in
+    product-scale (λ a. f a ^ count a l) (λ a. f a ^ (pick (eqb x a) 1 0 + count a l)) (f x) x n 0 (omega arith) (omega arith) here other ∙ ap (λ y. f x * y) ih
+  where
+    here : f x ^ (pick (eqb x x) 1 0 + count x l) ≡ f x * f x ^ count x l
+    here = rw (eq-eqb x x refl) (let q : 1 + count x l ≡ suc (count x l) = omega arith in rw q (pow-succ' (f x) (count x l)))
+
+    other : (i : ℕ) → (i ≡ x → ⊥) → f i ^ (pick (eqb x i) 1 0 + count i l) ≡ f i ^ count i l
+    other i ne = rw (ne-eqb x i (λ z. ne (sym z)), zero-add)
 
 module _ (a : PlanLists) (ok : Sound a) where
   pub order-below : (d : ℕ) → d < length (a .lengths) → getD (a .order) d 0 < length (a .lengths)
@@ -100,6 +131,12 @@ module _ (a : PlanLists) (ok : Sound a) where
           by (eqb (getD (a .order) d 0) x)
           (λ t. t ∙ sym (eq-eqb (find x (a .order)) d (ap (λ y. find y (a .order)) (sym (eqb-true _ x t)) ∙ rank-order d r)))
           (λ t. t ∙ sym (ne-eqb (find x (a .order)) d (λ e. eqb-false _ x t (ap (λ y. getD (a .order) y 0) (sym e) ∙ order-rank x h))))
+
+  -- and so is a product
+  pub product-order : (f : ℕ → ℕ) → product (λ d. f (getD (a .order) d 0)) (length (a .lengths)) 0 ≡ product f (length (a .lengths)) 0
+  product-order f =
+      let n = length (a .lengths) in
+      (rw (← ok .places) (sym (products-places (a .order) f))) ∙ sym (products-count (a .order) f n (λ d h. order-below d (let q = ok .places in omega arith))) ∙ product-cong n 0 (λ x l r. ap (λ k. f x ^ k) (ok .once x (omega arith)) ∙ power-one (f x))
 
   -- so the exponents along the plan sum to p
   pub exponents-sum : sumN (length (a .lengths)) (exponentAt a) ≡ a .p

@@ -9,7 +9,7 @@ use Rattle.planner.specs.declared.types.Priced.the-variants as Priced′
 use Rattle.planner.specs.declared.types.Planned.{Planned}
 use Rattle.planner.specs.Plans.{PlanLists, moved, added, shareSize, listsOf, slotted}
 use Rattle.planner.specs.Rule.{planOf}
-use Rattle.planner.specs.Refusals.{planningRefusal, pricingRefusal}
+use Rattle.planner.specs.Refusals.{planningRefusal, planRefusal}
 
 -- a plan's prices
 unfoldable pub pricesOf : PlanLists → Prices
@@ -22,7 +22,7 @@ pricedReply (Priced′.Refused n) = refuses n
 
 -- what pricing answers
 unfoldable pub pricing : Plan → Reply Prices
-pricing q = answered (pricingRefusal q) (pricesOf (listsOf q))
+pricing q = answered (planRefusal q) (pricesOf (listsOf q))
 
 -- what planning answers: "Each gives its number alone", so nothing but zeros stands beside a refusal
 unfoldable pub plannedAs : ℕ → PlanLists → Planned

@@ -1,9 +1,10 @@
 -- Plans as lists of any length, what they cost, and the machine's plan with its slots.
 use Prim.Native.Nat.{ℕ, zero, suc, _+_, _^_, _≤_, _<_}
 use mathlib.Core.Path.{_≡_}
-use mathlib.Core.List.{List, [], _∷_, _++_}
+use mathlib.Core.List.{List, [], _∷_}
 use lib.Dec.{eqb}
-use lib.ListN.{length, getD, take, replicate}
+use lib.ListN.{length, getD, take}
+use Rattle.cube.specs.Limits.{padded}
 use Rattle.cube.specs.Boxes.{pick}
 use Rattle.cube.specs.Portions.{ceiling}
 use Rattle.cube.specs.Tree as Tree
@@ -67,17 +68,9 @@ stepCount a = Tree.stepCount (length (a .lengths)) (exponentAt a) (a .p)
 
 -- ---- the machine's plan
 
--- the most axes, and the slots of the machine's arrays
-abbrev pub axisLimit : ℕ
-axisLimit = 8
-
 -- the lists that a machine's plan holds
 unfoldable pub listsOf : Plan → PlanLists
 listsOf q = record { lengths = take (q .axes) (q .lengths); order = take (q .axes) (q .order); exponents = take (q .axes) (q .exponents); p = q .p }
-
--- "Array slots past the last axis are zero."
-unfoldable pub padded : List ℕ → List ℕ
-padded l = take axisLimit (l ++ replicate axisLimit 0)
 
 unfoldable pub slotted : PlanLists → Plan
 slotted a =

@@ -4,11 +4,12 @@ use mathlib.Core.Bool.{Bool, true, false, _&&_, _||_, not}
 use mathlib.Core.List.{List, [], _∷_, _++_}
 use lib.Dec.{eqb, ltb, leb}
 use lib.ListN.{length, getD, drop}
+use Rattle.cube.specs.Limits.{axisLimit, lengthLimit, pointLimit, powerLimit}
 use Rattle.cube.specs.Choices.{points, lengthOf}
 use Rattle.cube.specs.Ways.{sumList, room}
 use Rattle.cube.specs.Checks.{Check, check, first}
 use Rattle.planner.specs.declared.types.Plan.{Plan}
-use Rattle.planner.specs.Plans.{PlanLists, count, listsOf, axisLimit}
+use Rattle.planner.specs.Plans.{PlanLists, count, listsOf}
 
 -- does f hold of every number below n? And of some element of l?
 unfoldable pub all : ℕ → (ℕ → Bool) → Bool
@@ -27,15 +28,15 @@ badAxes n = eqb n 0 || ltb axisLimit n
 
 -- 4. "An axis length is 0 or over 65,535."
 unfoldable pub badLength : ℕ → Bool
-badLength d = eqb d 0 || ltb 65535 d
+badLength d = eqb d 0 || ltb lengthLimit d
 
 -- 5. "The product of the lengths exceeds 16,777,216."
 unfoldable pub tooManyPoints : List ℕ → Bool
-tooManyPoints ds = ltb 16777216 (points ds)
+tooManyPoints ds = ltb pointLimit (points ds)
 
 -- 6. "p is over 10."
 unfoldable pub tooManyBoards : ℕ → Bool
-tooManyBoards p = ltb 10 p
+tooManyBoards p = ltb powerLimit p
 
 -- 7. "When planning, p exceeds the sum of floor(log2 length)."
 unfoldable pub noRoom : List ℕ → ℕ → Bool
@@ -77,5 +78,6 @@ planChecks q =
 unfoldable pub planningRefusal : List ℕ → ℕ → ℕ
 planningRefusal ds p = first (planningChecks ds p)
 
-unfoldable pub pricingRefusal : Plan → ℕ
-pricingRefusal q = first (planChecks q)
+-- of pricing, and of every entry that takes nothing but a plan
+unfoldable pub planRefusal : Plan → ℕ
+planRefusal q = first (planChecks q)

@@ -1,4 +1,4 @@
--- Small tapes with what the program prints for each. Written by `compare table`, which works the output out by direct sums of its own.
+-- Small tapes with what the program prints for each. Written by `compare table tapes`, which works the output out by direct sums of its own.
 use Prim.Native.Nat.{ℕ}
 use mathlib.Core.List.{List, [], _∷_}
 use Rattle.report.specs.Text.{text}
@@ -95,7 +95,6 @@ boards-before-points = record { tape = 65 ∷ 2 ∷ 0 ∷ 66 ∷ 2 ∷ 82 ∷ 39
 unfoldable pub points-before-limit : Case
 points-before-limit = record { tape = 65 ∷ 2 ∷ 0 ∷ 66 ∷ 0 ∷ 82 ∷ 39 ∷ 35 ∷ 1 ∷ 0 ∷ 0 ∷ 0 ∷ 82 ∷ 1 ∷ 0 ∷ 2 ∷ 0 ∷ 0 ∷ 0 ∷ 69 ∷ []; output = text "refused 10\n" }
 
--- All of them.
 unfoldable pub cases : List Case
 unfolding worked-example one-axis three-axes lowest-points both-axes-split two-axes-of-one middle-axis-longest no-end no-axes zero-length too-many-points high-p too-many-boards point-missing past-the-program form-before-length axes-before-length length-before-product product-before-p p-before-boards boards-before-points points-before-limit
 cases = worked-example ∷ one-axis ∷ three-axes ∷ lowest-points ∷ both-axes-split ∷ two-axes-of-one ∷ middle-axis-longest ∷ no-end ∷ no-axes ∷ zero-length ∷ too-many-points ∷ high-p ∷ too-many-boards ∷ point-missing ∷ past-the-program ∷ form-before-length ∷ axes-before-length ∷ length-before-product ∷ product-before-p ∷ p-before-boards ∷ boards-before-points ∷ points-before-limit ∷ []

@@ -6,13 +6,14 @@ use mathlib.Core.List.{List, [], _∷_, _++_}
 use lib.Dec.{eqb, ltb}
 use lib.ListN.{length, getD}
 use lib.IntN.{ℤ, pos}
+use Rattle.cube.specs.Limits.{programLimit}
 use Rattle.cube.specs.Choices.{totals}
 use Rattle.cube.specs.Checks.{Check, check, first}
 use Rattle.planner.specs.Plans.{PlanLists, axisAt, lengthAt, exponentAt, moved, added, shareSize}
 use Rattle.planner.specs.Rule.{planOf}
 use Rattle.planner.specs.Refusals.{planningChecks}
 use Rattle.boards.specs.Grids.{Grid, gridOf, maskOf}
-use Rattle.boards.specs.Steps.{Move, expand, transfer, finish, moves}
+use Rattle.boards.specs.Steps.{TreeStep, expand, transfer, finish, steps}
 use Rattle.engine.specs.Entries.{badArray, workCells}
 use Rattle.engine.specs.Memory.{read}
 use Rattle.tape.specs.Tapes.{Campaign, campaign}
@@ -27,7 +28,7 @@ planFor c = planOf (c .lengths) (c .p)
 
 -- 11. "in the program either count passes 8,192": the points, and 2^p·A
 unfoldable pub tooLarge : Campaign → Bool
-tooLarge c = ltb 8192 (length (c .points)) || ltb 8192 (workCells (planFor c))
+tooLarge c = ltb programLimit (length (c .points)) || ltb programLimit (workCells (planFor c))
 
 unfoldable pub programChecks : List ℕ → Option Campaign → List Check
 programChecks tape o =
@@ -65,34 +66,34 @@ unfoldable pub groupLine : List ℕ → (ℕ → ℤ) → ℕ → List ℕ
 groupLine ds array mask = text "group" ++ fields (decimal mask ∷ signeds (totals ds array mask))
 
 -- "it prints only at finish steps and passes over the rest"
-unfoldable pub lineOf : PlanLists → (ℕ → ℤ) → Move → List ℕ
+unfoldable pub lineOf : PlanLists → (ℕ → ℤ) → TreeStep → List ℕ
 lineOf a array (expand Y) = []
 lineOf a array (transfer Y s r n) = []
 lineOf a array (finish Y) = groupLine (a .lengths) array (maskOf (gridOf a) Y)
 
-unfoldable pub groupLines : PlanLists → (ℕ → ℤ) → List Move → List ℕ
+unfoldable pub groupLines : PlanLists → (ℕ → ℤ) → List TreeStep → List ℕ
 groupLines a array [] = []
 groupLines a array (m ∷ l) = lineOf a array m ++ groupLines a array l
 
-abbrev pub groupOf : Move → ℕ
+abbrev pub groupOf : TreeStep → ℕ
 groupOf (expand Y) = 0
 groupOf (transfer Y s r n) = 0
 groupOf (finish Y) = 1
 
 -- "end: groups printed"
-unfoldable pub groups : List Move → ℕ
+unfoldable pub groups : List TreeStep → ℕ
 groups [] = 0
 groups (m ∷ l) = groupOf m + groups l
 
 unfoldable pub endLine : ℕ → List ℕ
 endLine n = text "end" ++ fields (decimal n ∷ [])
 
-unfoldable pub report : PlanLists → (ℕ → ℤ) → List Move → List ℕ
+unfoldable pub report : PlanLists → (ℕ → ℤ) → List TreeStep → List ℕ
 report a array l = planLine a ++ (dimLines a (length (a .lengths)) 0 ++ (groupLines a array l ++ endLine (groups l)))
 
 -- "The program prints `refused N` and nothing else."
 unfoldable pub reportOr : ℕ → Campaign → List ℕ
-reportOr zero c = let a = planFor c in report a (read (c .points)) (moves (gridOf a))
+reportOr zero c = let a = planFor c in report a (read (c .points)) (steps (gridOf a))
 reportOr (suc n) c = text "refused" ++ fields (decimal (suc n) ∷ [])
 
 unfoldable pub printed : List ℕ → List ℕ

@@ -5,5 +5,5 @@ use Rattle.tape.specs.Reading
 use Rattle.cube.specs.Computing as cube
 
 unfoldable pub computing : ℕ
-unfolding Tapes.little Tapes.signed32 Tapes.repeated Tapes.point Tapes.command Tapes.pointsThen Tapes.pointsOf Tapes.lengthsThen Tapes.campaignOf Tapes.campaign Reading.tooLong Reading.shortSlice Reading.readingChecks Reading.readingRefusal Reading.filledOr Reading.reading cube.computing
+unfolding Tapes.signed32 Tapes.repeated Tapes.point Tapes.command Tapes.pointsThen Tapes.pointsOf Tapes.lengthsThen Tapes.campaignOf Tapes.campaign Reading.tooLong Reading.scanChecks Reading.scanRefusal Reading.scannedAs Reading.scanning Reading.shortSlice Reading.readingChecks Reading.readingRefusal Reading.filledOr Reading.reading cube.computing
 computing = 0

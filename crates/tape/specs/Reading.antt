@@ -6,12 +6,14 @@ use mathlib.Core.List.{List, [], _∷_, _++_}
 use lib.Dec.{ltb}
 use lib.ListN.{length, drop}
 use lib.IntN.{ℤ}
+use Rattle.cube.specs.Limits.{tapeLimit, padded}
 use Rattle.cube.specs.Checks.{Check, check, first}
+use Rattle.tape.specs.declared.types.Scan.{Scan}
 use Rattle.tape.specs.Tapes.{Campaign, campaign}
 
 -- 1. "The tape is over 65,536 bytes."
 unfoldable pub tooLong : List ℕ → Bool
-tooLong tape = ltb 65536 (length tape)
+tooLong tape = ltb tapeLimit (length tape)
 
 -- 2. "The tape departs from its form."
 abbrev pub isNone : Option Campaign → Bool
@@ -23,14 +25,30 @@ abbrev pub orEmpty : Option Campaign → Campaign
 orEmpty none = record { lengths = []; p = 0; points = [] }
 orEmpty (some c) = c
 
+-- ---- scanning: the form, and what the tape holds, without its points
+
+unfoldable pub scanChecks : List ℕ → List Check
+scanChecks tape = check 1 (tooLong tape) ∷ check 2 (isNone (campaign tape)) ∷ []
+
+unfoldable pub scanRefusal : List ℕ → ℕ
+scanRefusal tape = first (scanChecks tape)
+
+unfoldable pub scannedAs : ℕ → Campaign → Scan
+scannedAs zero c = record { refusal = 0; axes = length (c .lengths); lengths = padded (c .lengths); p = c .p; points = length (c .points) }
+scannedAs (suc n) c = record { refusal = suc n; axes = 0; lengths = padded []; p = 0; points = 0 }
+
+-- how many axes the tape names, which can pass the limit, the first lengths, p, and how many points it holds, a 52 counting as often as it repeats
+unfoldable pub scanning : List ℕ → Scan
+scanning tape = scannedAs (scanRefusal tape) (orEmpty (campaign tape))
+
+-- ---- reading: the points
+
 -- 11. "the tape reader's slice is too short for the points"
 unfoldable pub shortSlice : Campaign → ℕ → Bool
 shortSlice c n = ltb n (length (c .points))
 
 unfoldable pub readingChecks : List ℕ → ℕ → List Check
-readingChecks tape slice =
-    let c = campaign tape in
-    check 1 (tooLong tape) ∷ check 2 (isNone c) ∷ check 11 (shortSlice (orEmpty c) slice) ∷ []
+readingChecks tape slice = scanChecks tape ++ (check 11 (shortSlice (orEmpty (campaign tape)) slice) ∷ [])
 
 unfoldable pub readingRefusal : List ℕ → ℕ → ℕ
 readingRefusal tape slice = first (readingChecks tape slice)

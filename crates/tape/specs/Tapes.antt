@@ -1,5 +1,5 @@
 -- The tape: its commands, its form, and the campaign that it holds.
-use Prim.Native.Nat.{ℕ, zero, suc, _+_, _*_}
+use Prim.Native.Nat.{ℕ, zero, suc}
 use mathlib.Core.Option.{Option, none, some}
 use mathlib.Core.List.{List, [], _∷_, _++_}
 use lib.Dec.{eqb}
@@ -7,14 +7,10 @@ use lib.ListN.{length, replicate}
 use lib.IntN.{ℤ}
 use mir.Syntax.{w32}
 use mir.Val.{toZ}
+use Rattle.cube.specs.Bytes.{little}
 use Rattle.cube.specs.Boxes.{pick}
 
 -- ---- "one-byte commands with operands of fixed width, little-endian"
-
--- the number that bytes spell, the lowest first
-unfoldable pub little : List ℕ → ℕ
-little [] = 0
-little (b ∷ r) = b + 256 * little r
 
 -- the four bytes of a point: "signed 32-bit"
 unfoldable pub signed32 : ℕ → ℤ
@@ -24,16 +20,16 @@ signed32 n = toZ w32 n
 pub data Command : Type 0 where
   -- 41: an axis length
   axis : ℕ → List ℕ → Command
-  -- 42: p
-  rack : ℕ → List ℕ → Command
-  -- 56 and 52: a point, and how often it stands
+  -- 42: p, for 2^p boards
+  boards : ℕ → List ℕ → Command
+  -- 56 and 52: how often a point stands, and the point
   points : ℕ → ℤ → List ℕ → Command
   -- 45
   end : List ℕ → Command
   -- no command, or one cut short, or a 52 of count 0
   bad : Command
 
--- operands of one, two, four and six bytes
+-- operands of one, two and four bytes, handed to k with the bytes that follow
 abbrev pub one : List ℕ → (ℕ → List ℕ → Command) → Command
 one [] k = bad
 one (a ∷ r) k = k a r
@@ -58,7 +54,7 @@ unfoldable pub command : List ℕ → Command
 command [] = bad
 command (c ∷ r) =
     pick (eqb c 0x41) (two r (λ a b s. axis (little (a ∷ b ∷ [])) s))
-    (pick (eqb c 0x42) (one r (λ a s. rack a s))
+    (pick (eqb c 0x42) (one r (λ a s. boards a s))
     (pick (eqb c 0x56) (four r (λ a b d e s. points 1 (point a b d e) s))
     (pick (eqb c 0x52) (two r (λ a b s. four s (λ d e f g t. repeated (little (a ∷ b ∷ [])) (point d e f g) t)))
     (pick (eqb c 0x45) (end r) bad))))
@@ -78,7 +74,7 @@ withPoints n v (some l) = some (replicate n v ++ l)
 -- a command among the points, `k` reading what follows
 unfoldable pub pointsThen : Command → (List ℕ → Option (List ℤ)) → Option (List ℤ)
 pointsThen (axis d r) k = none
-pointsThen (rack p r) k = none
+pointsThen (boards p r) k = none
 pointsThen (points n v r) k = withPoints n v (k r)
 pointsThen (end []) k = some []
 pointsThen (end (b ∷ r)) k = none
@@ -93,14 +89,14 @@ abbrev pub withLength : ℕ → Option Campaign → Option Campaign
 withLength d none = none
 withLength d (some c) = some (record { lengths = d ∷ c .lengths; p = c .p; points = c .points })
 
-abbrev pub withRack : ℕ → Option (List ℤ) → Option Campaign
-withRack p none = none
-withRack p (some l) = some (record { lengths = []; p = p; points = l })
+abbrev pub withBoards : ℕ → Option (List ℤ) → Option Campaign
+withBoards p none = none
+withBoards p (some l) = some (record { lengths = []; p = p; points = l })
 
 -- a command among the lengths, `k` reading what follows, `f` as above
 unfoldable pub lengthsThen : ℕ → Command → (List ℕ → Option Campaign) → Option Campaign
 lengthsThen f (axis d r) k = withLength d (k r)
-lengthsThen f (rack p r) k = withRack p (pointsOf f r)
+lengthsThen f (boards p r) k = withBoards p (pointsOf f r)
 lengthsThen f (points n v r) k = none
 lengthsThen f (end r) k = none
 lengthsThen f bad k = none

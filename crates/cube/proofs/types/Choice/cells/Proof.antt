@@ -22,7 +22,7 @@ abbrev μ-loop : tie.MeasureT-loop
 
 -- src/types.rt:82:9
 loop-holds : tie.Need-loop-holds Inv-loop μ-loop
-loop-holds c = let q = c .pre .eight in (search needs, q, count-start (take (c .args .axes) (c .args .t2)) (c .args .axes) (c .args .self .mask) (c .pre))
+loop-holds c = let q = c .pre .few in (search needs, q, count-start (take (c .args .axes) (c .args .t2)) (c .args .axes) (c .args .self .mask) (c .pre))
 
 -- src/types.rt:83:16
 keeps-requires : tie.Need-keeps-requires Inv-loop μ-loop
