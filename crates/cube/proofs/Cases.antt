@@ -7,6 +7,8 @@ use native.Mathlib.Omega.{arith}
 use lib.ListN.{length, getD}
 use lib.IntN.{ℤ, pos, negsuc}
 use Rattle.cube.specs.Computing.{computing}
+use Rattle.cube.specs.Limits.{padded}
+use Rattle.cube.specs.Bytes.{little}
 use Rattle.cube.specs.Boxes.{pick, table, product, place, position, put}
 use Rattle.cube.specs.Choices.{keeps, fullMask, withoutMask, withMask, grandMask, cells, points, totals}
 use Rattle.cube.specs.Portions.{portionStart, ceiling}
@@ -16,6 +18,12 @@ use Rattle.cube.specs.Checks.{check, first, answered, gives, refuses, Re
 
 abbrev at : List ℕ → ℕ → ℕ
 at l i = getD l i 0
+
+-- ---- bytes
+
+bytes : (little (2 ∷ 1 ∷ []) ≡ 258) × (little (0 ∷ 0 ∷ 0 ∷ 128 ∷ []) ≡ 2147483648) × (padded (7 ∷ 8 ∷ []) ≡ (7 ∷ 8 ∷ 0 ∷ 0 ∷ 0 ∷ 0 ∷ 0 ∷ 0 ∷ []))
+unfolding computing
+bytes = (refl, refl, refl)
 
 -- ---- boxes: three axes of extents 2, 3 and 4
 
@@ -72,6 +80,11 @@ tree = (refl, refl, refl, refl, refl)
 moves : (moved 3 (at (2 ∷ 2 ∷ 2 ∷ [])) (at (1 ∷ 1 ∷ 0 ∷ [])) ∷ moved 3 (at (2 ∷ 2 ∷ 2 ∷ [])) (at (0 ∷ 1 ∷ 1 ∷ [])) ∷ moved 2 (at (4 ∷ 2 ∷ [])) (at (0 ∷ 1 ∷ [])) ∷ moved 2 (at (2 ∷ 4 ∷ [])) (at (1 ∷ 0 ∷ [])) ∷ moved 2 (at (4 ∷ 2 ∷ [])) (at (1 ∷ 0 ∷ [])) ∷ weighted 2 (at (4 ∷ 2 ∷ [])) (at (0 ∷ 1 ∷ [])) ∷ []) ≡ (10 ∷ 15 ∷ 5 ∷ 4 ∷ 2 ∷ 5 ∷ [])
 unfolding computing
 moves = refl
+
+-- T of eight axes, three portions deep and one each: the most steps that there can be
+most-steps : stepCount 8 (at (3 ∷ 1 ∷ 1 ∷ 1 ∷ 1 ∷ 1 ∷ 1 ∷ 1 ∷ [])) 10 ≡ 19810
+unfolding computing
+most-steps = refl
 
 -- P8, P2 and P1: cells added up, A and T
 prices : (added 2 (at (3 ∷ 3 ∷ [])) ∷ added 2 (at (3 ∷ 2 ∷ [])) ∷ weight 2 (at (3 ∷ 2 ∷ [])) 0 ∷ weight 2 (at (3 ∷ 2 ∷ [])) 1 ∷ shareSize 2 (at (2 ∷ 2 ∷ [])) ∷ shareSize 1 (at (2 ∷ [])) ∷ regionSize 2 (at (5 ∷ 7 ∷ [])) 0 ∷ regionStart 2 (at (5 ∷ 7 ∷ [])) 1 ∷ stepCount 2 (at (1 ∷ 0 ∷ [])) 1 ∷ stepCount 1 (at (2 ∷ [])) 2 ∷ []) ≡ (21 ∷ 14 ∷ 2 ∷ 4 ∷ 4 ∷ 1 ∷ 7 ∷ 7 ∷ 6 ∷ 5 ∷ [])

@@ -9,3 +9,6 @@ pub mod Portions
 pub mod Digits
 pub mod Counting
 pub mod Cases
+pub mod Tables
+pub mod Masks
+pub mod Axes

@@ -94,6 +94,11 @@ pub table-holds : answers cases ≡ dues cases
 unfolding computing plannedOr answer cases answers dues
 table-holds = refl
 
+-- a raise doubles what the next one of that axis costs: 16 and 16 with p 2, by `compare plan`
+doubled : answer (planner (16 ∷ 16 ∷ []) 2) ≡ planned (0 ∷ 1 ∷ []) (1 ∷ 1 ∷ []) 33 528 16 10
+unfolding computing plannedOr answer
+doubled = refl
+
 -- ---- the refusals, each in its order
 
 -- none of the lengths; nine axes; a length of 0, of 65,536; too many points; p 11, though there is no room either; p over the room
@@ -101,7 +106,7 @@ planning-refused : (planningRefusal [] 11 ≡ 3)
     × (planningRefusal (replicate 9 0) 0 ≡ 3)
     × (planningRefusal (replicate 8 1) 0 ≡ 0)
     × (planningRefusal (65535 ∷ 65535 ∷ 0 ∷ []) 11 ≡ 4)
-    × (planningRefusal (65536 ∷ []) 0 ≡ 4)
+    × (planningRefusal (65536 ∷ 300 ∷ []) 0 ≡ 4)
     × (planningRefusal (65535 ∷ []) 10 ≡ 0)
     × (planningRefusal (4096 ∷ 4097 ∷ []) 11 ≡ 5)
     × (planningRefusal (2 ∷ []) 11 ≡ 6)

@@ -1,2 +1,16 @@
 pub mod Orders
 pub mod Cases
+pub mod Tools
+pub mod Sorted
+pub mod Shuffled
+pub mod Ordered
+pub mod Cost
+pub mod Greedy
+pub mod Places
+pub mod Ranked
+pub mod Ways
+pub mod Chosen
+pub mod Least
+pub mod Attained
+pub mod Room
+pub mod Demand

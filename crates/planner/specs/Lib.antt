@@ -3,3 +3,4 @@ pub mod Rule
 pub mod Refusals
 pub mod Answers
 pub mod Computing
+pub mod Trees

@@ -1,0 +1,24 @@
+//! The campaign totals engine by direct sums, with a planner, a search and a
+//! simulated rack of its own. It shares no code with the proved engine.
+
+pub mod bench;
+pub mod board;
+pub mod check;
+pub mod choice;
+pub mod held;
+pub mod judge;
+pub mod listed;
+pub mod longest;
+pub mod make;
+pub mod plan;
+pub mod price;
+pub mod program;
+pub mod rack;
+pub mod random;
+pub mod search;
+pub mod shape;
+pub mod spell;
+pub mod steps;
+pub mod table;
+pub mod tape;
+pub mod totals;

@@ -1,0 +1,87 @@
+use std::path::Path;
+use std::process::ExitCode;
+use std::{env, io};
+
+use compare::judge::Refusal;
+use compare::plan::{planned, Plan};
+use compare::{bench, check, listed, make, price, table, totals};
+
+const USAGE: &str = "\
+usage: compare totals                   tape on standard input, totals on standard output
+       compare plan P LENGTH..          the planner's plan and its prices
+       compare tapes SEED N DIR         write N made tapes, each with what is printed for it
+       compare check PROGRAM SEED N     run a program on N made tapes and compare
+       compare bench [PROGRAM]          time the largest campaigns, each as a whole process
+       compare table TOPIC              cases for the definitions, as an antt module:
+                                        tapes (with their output), steps (with what is
+                                        held) or memory (after each step)
+";
+
+/// `None` for arguments that make no command.
+fn run(words: &[&str]) -> Option<io::Result<bool>> {
+    let done = |result: io::Result<()>| Some(result.map(|()| true));
+    match *words {
+        ["totals"] => done(totals::run(io::stdin().lock(), io::stdout().lock())),
+        ["plan", p, ref lengths @ ..] => {
+            let lengths: Option<Vec<u64>> =
+                lengths.iter().map(|length| length.parse().ok()).collect();
+            print_plan(planned(&lengths?, p.parse().ok()?));
+            done(Ok(()))
+        }
+        ["tapes", seed, count, folder] => {
+            done(make::write(seed.parse().ok()?, count.parse().ok()?, Path::new(folder)))
+        }
+        ["check", program, seed, count] => {
+            Some(Ok(check::run(program, seed.parse().ok()?, count.parse().ok()?)))
+        }
+        ["bench"] => Some(bench::run(None)),
+        ["bench", program] => Some(bench::run(Some(program))),
+        ["table", topic] => {
+            print!("{}", module(topic)?);
+            done(Ok(()))
+        }
+        _ => None,
+    }
+}
+
+fn module(topic: &str) -> Option<String> {
+    match topic {
+        "tapes" => Some(table::module()),
+        "steps" => Some(listed::steps_module()),
+        "memory" => Some(listed::memory_module()),
+        _ => None,
+    }
+}
+
+fn print_plan(plan: Result<Plan, Refusal>) {
+    let plan = match plan {
+        Ok(plan) => plan,
+        Err(Refusal(number)) => return println!("refused {number}"),
+    };
+    let listed = |items: Vec<String>| items.join(" ");
+    let exponents = plan.order.iter().map(|&axis| plan.exponents[axis].to_string());
+    println!("order {}", listed(plan.order.iter().map(usize::to_string).collect()));
+    println!("exponents {}", listed(exponents.collect()));
+    println!("moved {}", price::moved(&plan));
+    println!("added {}", price::added(&plan));
+    println!("A {}", plan.share());
+    println!("T {}", price::step_count(&plan));
+}
+
+fn main() -> ExitCode {
+    // An argument that is no text makes no command either.
+    let arguments: Vec<_> = env::args_os().skip(1).collect();
+    let words: Option<Vec<&str>> = arguments.iter().map(|word| word.to_str()).collect();
+    match words.and_then(|words| run(&words)) {
+        Some(Ok(true)) => ExitCode::SUCCESS,
+        Some(Ok(false)) => ExitCode::FAILURE,
+        Some(Err(error)) => {
+            eprintln!("compare: {error}");
+            ExitCode::FAILURE
+        }
+        None => {
+            eprint!("{USAGE}");
+            ExitCode::from(2)
+        }
+    }
+}

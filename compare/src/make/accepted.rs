@@ -1,0 +1,122 @@
+//! Campaigns that the program takes.
+
+use super::campaign::{self, Values};
+use super::shapes;
+use super::{Kind, Maker::Accepted, Tape};
+use crate::random::Random;
+use crate::shape::Shape;
+use crate::spell;
+use crate::tape::Run;
+
+pub const KINDS: &[Kind] = &[
+    ("any campaign", Accepted(any)),
+    ("any campaign", Accepted(any)),
+    ("any campaign", Accepted(any)),
+    ("any campaign", Accepted(any)),
+    ("any campaign", Accepted(any)),
+    ("any campaign", Accepted(any)),
+    ("one axis", Accepted(|random| of_axes(random, 1))),
+    ("two axes", Accepted(|random| of_axes(random, 2))),
+    ("three axes", Accepted(|random| of_axes(random, 3))),
+    ("six axes", Accepted(|random| of_axes(random, 6))),
+    ("eight axes", Accepted(|random| of_axes(random, 8))),
+    ("one long axis", Accepted(one_long_axis)),
+    ("one long axis among ones", Accepted(one_long_axis_among_ones)),
+    ("axes of length 1", Accepted(ones)),
+    ("powers of two, every halving", Accepted(every_halving)),
+    ("weights that tie", Accepted(tied)),
+    ("weights that tie", Accepted(tied)),
+    ("weights that nearly tie", Accepted(nearly_tied)),
+    ("many boards", Accepted(many_boards)),
+    ("many boards", Accepted(many_boards)),
+    ("many boards", Accepted(many_boards)),
+    ("largest of its kind", Accepted(largest)),
+    ("largest of its kind", Accepted(largest)),
+    ("at a limit", Accepted(at_the_limit)),
+    ("lowest points", Accepted(lowest)),
+    ("one run", Accepted(one_run)),
+];
+
+fn any(random: &mut Random) -> Tape {
+    let shape = shapes::any(random);
+    campaign::tape(random, &shape)
+}
+
+fn of_axes(random: &mut Random, axes: u64) -> Tape {
+    let shape = shapes::of_axes(random, axes);
+    campaign::tape(random, &shape)
+}
+
+fn one_long_axis(random: &mut Random) -> Tape {
+    let p = random.between(0, 10) as u8;
+    let length = random.between(1 << p, 8192) as u16;
+    campaign::tape(random, &Shape::new(&[length], p))
+}
+
+/// Past one axis the shares count too: the work area is the longest row and more.
+fn one_long_axis_among_ones(random: &mut Random) -> Tape {
+    loop {
+        let axes = random.between(2, 8) as usize;
+        let mut lengths = vec![1; axes];
+        let p = random.between(0, 10) as u8;
+        lengths[random.index(axes)] = random.between(1 << p, 8191) as u16;
+        let shape = Shape { lengths, p };
+        if shape.is_taken() {
+            return campaign::tape(random, &shape);
+        }
+    }
+}
+
+fn ones(random: &mut Random) -> Tape {
+    let axes = random.between(1, 8) as usize;
+    campaign::tape(random, &Shape::new(&vec![1; axes], 0))
+}
+
+fn every_halving(random: &mut Random) -> Tape {
+    loop {
+        let axes = random.between(1, 8);
+        let lengths: Vec<u16> = (0..axes).map(|_| 1 << random.below(5)).collect();
+        let p = Shape::new(&lengths, 0).halvings() as u8;
+        let shape = Shape { lengths, p };
+        if shape.is_taken() {
+            return campaign::tape(random, &shape);
+        }
+    }
+}
+
+fn tied(random: &mut Random) -> Tape {
+    let shape = shapes::tied(random, 1);
+    campaign::tape(random, &shape)
+}
+
+fn nearly_tied(random: &mut Random) -> Tape {
+    let by = random.pick(&[0, 2]);
+    let shape = shapes::tied(random, by);
+    campaign::tape(random, &shape)
+}
+
+fn many_boards(random: &mut Random) -> Tape {
+    let shape = shapes::many_boards(random);
+    campaign::tape(random, &shape)
+}
+
+fn largest(random: &mut Random) -> Tape {
+    let shape = shapes::largest(random);
+    campaign::tape(random, &shape)
+}
+
+fn at_the_limit(random: &mut Random) -> Tape {
+    let shape = shapes::at_the_limit(random);
+    campaign::tape(random, &shape)
+}
+
+fn lowest(random: &mut Random) -> Tape {
+    let shape = shapes::any(random);
+    campaign::tape_of(random, &shape, Values::Lowest)
+}
+
+fn one_run(random: &mut Random) -> Tape {
+    let shape = shapes::any(random);
+    let (count, point) = (shape.points() as u16, random.next() as i32);
+    spell::tape(&shape.lengths, shape.p, vec![spell::repeat(Run { count, point })])
+}

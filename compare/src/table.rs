@@ -1,0 +1,182 @@
+//! Small tapes with what the program prints for each, as an antt module.
+
+use crate::spell;
+use crate::tape::Run;
+use crate::totals;
+
+struct Case {
+    name: &'static str,
+    says: &'static str,
+    tape: Vec<u8>,
+}
+
+const OPENING: &str = "\
+-- Small tapes with what the program prints for each. Written by `compare table tapes`, which works the output out by direct sums of its own.
+use Prim.Native.Nat.{ℕ}
+use mathlib.Core.List.{List, [], _∷_}
+use Rattle.report.specs.Text.{text}
+
+pub record Case : Type 0 where
+  pub tape : List ℕ
+  pub output : List ℕ
+";
+
+pub fn module() -> String {
+    let cases = cases();
+    let mut text = OPENING.to_string();
+    for case in &cases {
+        text.push_str(&declared(case));
+    }
+    text + &all(cases.iter().map(|case| case.name))
+}
+
+/// The list of all cases; to compute with it is to compute with each.
+pub fn all<'a>(names: impl Iterator<Item = &'a str>) -> String {
+    let names: Vec<&str> = names.collect();
+    let listed = list(&names);
+    let names = names.join(" ");
+    format!("\nunfoldable pub cases : List Case\nunfolding {names}\ncases = {listed}\n")
+}
+
+fn declared(case: &Case) -> String {
+    let Case { name, says, tape } = case;
+    let (tape, output) = (list(tape), quoted(&totals::printed(tape)));
+    format!(
+        "\n-- {says}\nunfoldable pub {name} : Case\n\
+         {name} = record {{ tape = {tape}; output = text {output} }}\n"
+    )
+}
+
+pub fn list<T: std::fmt::Display>(items: &[T]) -> String {
+    let items: String = items.iter().map(|item| format!("{item} ∷ ")).collect();
+    items + "[]"
+}
+
+fn quoted(bytes: &[u8]) -> String {
+    let text = String::from_utf8(bytes.to_vec()).expect("what is printed is ASCII");
+    format!("\"{}\"", text.replace('\n', "\\n"))
+}
+
+/// A tape of the right form, its points one by one.
+fn tape(lengths: &[u16], p: u8, points: &[i32]) -> Vec<u8> {
+    spell::tape(lengths, p, spell::singles(points))
+}
+
+fn repeated(count: u16, point: i32) -> Vec<u8> {
+    spell::repeat(Run { count, point })
+}
+
+fn without_end(mut tape: Vec<u8>) -> Vec<u8> {
+    tape.pop();
+    tape
+}
+
+fn cases() -> Vec<Case> {
+    let mut cases = accepted();
+    cases.extend(refused());
+    cases.extend(refused_for_the_first_of_several());
+    cases
+}
+
+fn accepted() -> Vec<Case> {
+    let case = |name, says, tape| Case { name, says, tape };
+    let lowest = i32::MIN;
+    vec![
+        case(
+            "worked-example",
+            "lengths 2, 3, p 1: the worked example",
+            tape(&[2, 3], 1, &[1, -2, 3, 4, 5, -6]),
+        ),
+        case("one-axis", "length 5, p 2: one axis", tape(&[5], 2, &[7, 0, -1, 12, 3])),
+        case(
+            "three-axes",
+            "lengths 2, 2, 2, p 2: three axes, points by a 52",
+            spell::tape(&[2, 2, 2], 2, vec![repeated(3, 5), spell::point(-7), repeated(4, 1)]),
+        ),
+        case(
+            "lowest-points",
+            "length 5, p 0: five points of -2147483648",
+            tape(&[5], 0, &[lowest; 5]),
+        ),
+        case(
+            "both-axes-split",
+            "lengths 3, 2, p 2: both axes split",
+            tape(&[3, 2], 2, &[1, 10, 100, 1000, 10000, 100000]),
+        ),
+        case("two-axes-of-one", "lengths 1, 1, p 0: two axes of length 1", tape(&[1, 1], 0, &[-9])),
+        case(
+            "middle-axis-longest",
+            "lengths 2, 3, 2, p 1: the middle axis longest, negative points",
+            tape(&[2, 3, 2], 1, &[-1, -2, -3, -4, -5, -6, -7, -8, -9, 10, 11, -12]),
+        ),
+    ]
+}
+
+fn refused() -> Vec<Case> {
+    let case = |name, says, tape| Case { name, says, tape };
+    let longest = vec![repeated(65535, 0)];
+    vec![
+        case("no-end", "refused 2: no 45", without_end(tape(&[2], 1, &[1, 2]))),
+        case("no-axes", "refused 3: no 41", tape(&[], 0, &[1])),
+        case("zero-length", "refused 4: a length of 0", tape(&[2, 0], 0, &[])),
+        case("too-many-points", "refused 5: lengths 4096, 4097", tape(&[4096, 4097], 0, &[1])),
+        case("high-p", "refused 6: p 11", tape(&[4096], 11, &[])),
+        case(
+            "too-many-boards",
+            "refused 7: lengths 3, 2, p 3",
+            tape(&[3, 2], 3, &[1, 2, 3, 4, 5, 6]),
+        ),
+        case(
+            "point-missing",
+            "refused 10: lengths 2, 2 and three points",
+            tape(&[2, 2], 1, &[1, 2, 3]),
+        ),
+        case(
+            "past-the-program",
+            "refused 11: length 65535 and as many points",
+            spell::tape(&[65535], 0, longest),
+        ),
+    ]
+}
+
+fn refused_for_the_first_of_several() -> Vec<Case> {
+    let case = |name, says, tape| Case { name, says, tape };
+    let nine_thousand = vec![repeated(8999, 1), repeated(1, 2)];
+    vec![
+        case(
+            "form-before-length",
+            "refused 2: no 45, and a length of 0",
+            without_end(tape(&[0], 0, &[])),
+        ),
+        case(
+            "axes-before-length",
+            "refused 3: nine axes, one of length 0, and p 200",
+            tape(&[1, 1, 1, 1, 0, 1, 1, 1, 1], 200, &[]),
+        ),
+        case(
+            "length-before-product",
+            "refused 4: a length of 0 after 65535 twice, and p 11",
+            tape(&[65535, 65535, 0], 11, &[]),
+        ),
+        case(
+            "product-before-p",
+            "refused 5: lengths 65535 twice, and p 11",
+            tape(&[65535, 65535], 11, &[]),
+        ),
+        case(
+            "p-before-boards",
+            "refused 6: p 11 for length 2, and one point",
+            tape(&[2], 11, &[1]),
+        ),
+        case(
+            "boards-before-points",
+            "refused 7: p 2 for length 2, and 9000 points",
+            spell::tape(&[2], 2, nine_thousand.clone()),
+        ),
+        case(
+            "points-before-limit",
+            "refused 10: 9000 points for length 2",
+            spell::tape(&[2], 0, nine_thousand),
+        ),
+    ]
+}

@@ -1,0 +1,153 @@
+//! The commands as processes.
+
+use std::fs;
+use std::os::unix::fs::PermissionsExt;
+use std::path::PathBuf;
+use std::process::{Command, Output};
+
+use compare::{make, table, totals};
+
+const PROGRAM: &str = env!("CARGO_BIN_EXE_compare");
+
+fn compare(words: &[&str]) -> Output {
+    Command::new(PROGRAM).args(words).output().unwrap()
+}
+
+fn text(bytes: &[u8]) -> String {
+    String::from_utf8(bytes.to_vec()).unwrap()
+}
+
+fn temporary(name: &str) -> PathBuf {
+    PathBuf::from(env!("CARGO_TARGET_TMPDIR")).join(name)
+}
+
+/// A program to be checked, as a shell script.
+fn script(name: &str, body: &str) -> String {
+    let path = temporary(name);
+    fs::write(&path, format!("#!/bin/sh\n{body}\n")).unwrap();
+    fs::set_permissions(&path, fs::Permissions::from_mode(0o755)).unwrap();
+    path.to_str().unwrap().to_string()
+}
+
+fn last_line(output: &Output) -> String {
+    text(&output.stdout).lines().last().unwrap().to_string()
+}
+
+#[test]
+fn bad_arguments_get_the_usage() {
+    let commands: [&[&str]; 9] = [
+        &[],
+        &["sum"],
+        &["totals", "x"],
+        &["plan"],
+        &["plan", "x", "2"],
+        &["plan", "1", "-2"],
+        &["tapes", "1", "2"],
+        &["check", "true", "1"],
+        &["check", "true", "1", "x"],
+    ];
+    for words in commands {
+        let output = compare(words);
+        assert_eq!(output.status.code(), Some(2), "{words:?}");
+        assert!(output.stdout.is_empty() && text(&output.stderr).starts_with("usage: "));
+    }
+}
+
+#[test]
+fn plan_prints_the_papers_cases() {
+    let printed = |words: &[&str]| text(&compare(words).stdout);
+    let p1 = "order 0\nexponents 2\nmoved 3\nadded 5\nA 1\nT 5\n";
+    assert_eq!(printed(&["plan", "2", "5"]), p1);
+    let p2 = "order 1 0\nexponents 1 0\nmoved 2\nadded 14\nA 4\nT 6\n";
+    assert_eq!(printed(&["plan", "1", "2", "3"]), p2);
+    assert_eq!(printed(&["plan", "3", "3", "2"]), "refused 7\n");
+    assert_eq!(printed(&["plan", "0", "65536"]), "refused 4\n");
+}
+
+#[test]
+fn check_passes_the_same_program() {
+    let program = script("same", &format!("exec {PROGRAM} totals"));
+    let output = compare(&["check", &program, "1", "200"]);
+    assert_eq!(last_line(&output), "200 passed, 0 failed");
+    assert!(output.status.success() && output.stderr.is_empty());
+    assert!(
+        text(&output.stdout).contains("accepted") && text(&output.stdout).contains("refused 11")
+    );
+}
+
+#[test]
+fn check_finds_what_differs() {
+    let wrong = [
+        ("one_answer", "cat >/dev/null; echo refused 2".to_string()),
+        ("on_error", format!("{PROGRAM} totals; echo x >&2")),
+        ("no_feed", format!("printf %s \"$({PROGRAM} totals)\"")),
+        ("stopped", format!("{PROGRAM} totals; kill -9 $$")),
+        ("mute", "exit 0".to_string()),
+    ];
+    for (name, body) in wrong {
+        let output = compare(&["check", &script(name, &body), "1", "40"]);
+        assert_eq!(output.status.code(), Some(1), "{name}");
+        assert!(!last_line(&output).ends_with(" 0 failed"), "{name}: {}", last_line(&output));
+    }
+    let nowhere = compare(&["check", "/no/such/program", "1", "3"]);
+    assert_eq!(last_line(&nowhere), "0 passed, 3 failed");
+}
+
+#[test]
+fn tapes_are_written_beside_their_output() {
+    let folder = temporary("tapes");
+    let output = compare(&["tapes", "5", "30", folder.to_str().unwrap()]);
+    assert!(output.status.success() && output.stdout.is_empty());
+    for index in 0..30 {
+        let tape = fs::read(folder.join(format!("{index:05}.tape"))).unwrap();
+        let printed = fs::read(folder.join(format!("{index:05}.out"))).unwrap();
+        assert_eq!(tape, make::made(5, index).tape);
+        assert_eq!(printed, totals::printed(&tape));
+    }
+}
+
+#[test]
+fn table_says_what_its_comments_say() {
+    let module = text(&compare(&["table", "tapes"]).stdout);
+    assert_eq!(module, table::module());
+    let blocks: Vec<&str> = module.split("\n\n").collect();
+    let cases = &blocks[2..blocks.len() - 1];
+    let mut names = String::new();
+    for case in cases {
+        let lines: Vec<&str> = case.lines().collect();
+        let (says, name) = (&lines[0][3..], lines[1].split(' ').nth(2).unwrap());
+        let output = quoted(lines[2]);
+        match says.split_once(": ").unwrap().0.strip_prefix("refused ") {
+            Some(number) => assert_eq!(output, format!("refused {number}\n"), "{name}"),
+            None => assert!(output.starts_with("plan "), "{name}"),
+        }
+        assert!(output.len() <= 200, "{name}");
+        names += &format!("{name} ∷ ");
+    }
+    assert!(cases.len() >= 16);
+    assert!(module.ends_with(&format!("cases = {names}[]\n")));
+}
+
+/// The text that a case gives in quotes.
+fn quoted(line: &str) -> String {
+    let inside = line.split("output = text \"").nth(1).unwrap();
+    inside.strip_suffix("\" }").unwrap().replace("\\n", "\n")
+}
+
+#[test]
+fn unknown_tables_get_the_usage() {
+    for words in [&["table"][..], &["table", "plans"]] {
+        assert_eq!(compare(words).status.code(), Some(2), "{words:?}");
+    }
+}
+
+/// The step list of the worked example, by hand from the paper.
+#[test]
+fn the_worked_examples_steps_are_listed() {
+    let module = text(&compare(&["table", "steps"]).stdout);
+    let told = "steps = expands 3 ∷ finishes 2 ∷ transfers 1 0 1 2 ∷ expands 1 ∷ finishes 0 ∷ finishes 1 ∷ [];";
+    assert!(module.contains(told));
+    let memory = text(&compare(&["table", "memory"]).stdout);
+    assert_eq!(memory.matches("pub record Case").count(), 1);
+    assert_eq!(memory.matches(" : Case\n").count(), module.matches(" : Case\n").count());
+}
