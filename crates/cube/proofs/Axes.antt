@@ -10,7 +10,7 @@ use Rattle.cube.specs.Tree.{kept, choiceCells, overSetsFrom, overSets, s
 use Rattle.cube.proofs.Boxing.{product-cong}
 use Rattle.cube.proofs.Products.{product-last}
 use Rattle.cube.proofs.Sets.{Down, down-up, down-out, has-head, kept-has, kept-other}
-use Rattle.cube.proofs.Weights.{choice-cells}
+use Rattle.cube.proofs.Weights.{front-kept, front-summed, choice-cells}
 use Rattle.cube.proofs.Powers.{product-drop}
 
 -- an axis: its length, and its key, by which it is priced (its exponent, or its length)
@@ -68,13 +68,6 @@ keys-table len key zero d = refl
 keys-table len key (suc m) d = ap (λ (x : List ℕ). key d ∷ x) (keys-table len key m (d + 1))
 
 module _ (n : ℕ) (len key price : ℕ → ℕ) (F : List ℕ → ℕ) (same : (j : ℕ) (Y : List ℕ) → Down (j ∷ Y) n → F (j ∷ Y) ≡ choiceCells n len (j ∷ Y) * price (key j)) where
-  front-summed : (d : ℕ) (Y : List ℕ) → product (kept (d ∷ Y) len) (d + 1) 0 ≡ product (kept Y len) d 0
-  front-summed d Y =
-      product-last (kept (d ∷ Y) len) d 0 ∙ ap₂ _*_ (product-cong d 0 (λ i l r. kept-other len d i Y (λ q. omega arith))) (ap (kept (d ∷ Y) len) (zero-add d) ∙ kept-has len (d ∷ Y) d (has-head d Y)) ∙ mul-one _
-
-  front-kept : (d : ℕ) (Y : List ℕ) → Down Y d → product (kept Y len) (d + 1) 0 ≡ product (kept Y len) d 0 * len d
-  front-kept d Y h = unfold choiceCells product in (choice-cells len 1 d Y h ∙ ap (λ x. product (kept Y len) d 0 * x) (mul-one (len d)))
-
   -- the sets that are Y with some of the places from d on, and Y itself at the price of k
   sets-tree : (m d k : ℕ) (Y : List ℕ) → d + m ≡ n → Down Y d → overSetsFrom F m d Y + choiceCells n len Y * price k ≡ tree price k (product (kept Y len) d 0) (tableFrom m d (axis len key))
   unfolding overSetsFrom tree tableFrom choiceCells
@@ -83,7 +76,7 @@ module _ (n : ℕ) (len key price : ℕ → ℕ) (F : List ℕ → ℕ) (same : 
       let i = sets-tree m (d + 1) k Y (omega arith) (down-up Y d (d + 1) (omega arith) h) in
       let j = sets-tree m (d + 1) (key d) (d ∷ Y) (omega arith) (omega arith, h) in
       let f = same d Y (omega arith, h) in
-      rw (← front-kept d Y h, ← i, ← front-summed d Y, ← j, f) (omega arith)
+      rw (← front-kept len d Y h, ← i, ← front-summed len d Y, ← j, f) (omega arith)
 
   pub over-tree : price 0 ≡ 0 → overSets n F ≡ tree price 0 1 (table n (axis len key))
   unfolding product

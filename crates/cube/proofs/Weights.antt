@@ -17,11 +17,11 @@ tail len exp zero d = 0
 tail len exp (suc m) d = (len d + 1) * tail len exp m (d + 1) + sent (exp d) * product len m (d + 1)
 
 module _ (len : ℕ → ℕ) where
-  front-kept : (d : ℕ) (Y : List ℕ) → Down Y d → product (kept Y len) (d + 1) 0 ≡ product (kept Y len) d 0 * len d
+  pub front-kept : (d : ℕ) (Y : List ℕ) → Down Y d → product (kept Y len) (d + 1) 0 ≡ product (kept Y len) d 0 * len d
   front-kept d Y h =
       product-last (kept Y len) d 0 ∙ ap (λ x. product (kept Y len) d 0 * x) (ap (kept Y len) (zero-add d) ∙ kept-out len Y d (down-out Y d d h (omega arith)))
 
-  front-summed : (d : ℕ) (Y : List ℕ) → product (kept (d ∷ Y) len) (d + 1) 0 ≡ product (kept Y len) d 0
+  pub front-summed : (d : ℕ) (Y : List ℕ) → product (kept (d ∷ Y) len) (d + 1) 0 ≡ product (kept Y len) d 0
   front-summed d Y =
       product-last (kept (d ∷ Y) len) d 0 ∙ ap₂ _*_ (product-cong d 0 (λ i l r. kept-other len d i Y (λ q. omega arith))) (ap (kept (d ∷ Y) len) (zero-add d) ∙ kept-has len (d ∷ Y) d (has-head d Y)) ∙ mul-one _
 

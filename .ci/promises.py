@@ -1,0 +1,43 @@
+#!/usr/bin/env python3
+"""Checks that docs/PROMISES.md points to what is there.
+
+Each `crate/File.name` must be a name that specs/ or proofs/ of that crate declares in that file, each `crate/File` such a
+file, each other name in backquotes one that some file of the crates declares, and each crate/edit_name a must-fail edit;
+each edit must be named. Prints what is not so; exit status 1 if there is any.
+"""
+import pathlib
+import re
+import sys
+
+root = pathlib.Path(__file__).resolve().parent.parent
+text = (root / 'docs/PROMISES.md').read_text(encoding='utf-8')
+declared = {}
+for file in root.glob('crates/*/*/**/*.antt'):
+    body = file.read_text(encoding='utf-8')
+    names = re.findall(r'^\s*(?:unfoldable |abbrev |pub )*([^\s:(]+) (?:\{[^}]*\} )?:', body, re.M)
+    names += re.findall(r'^\s*(?:pub )?(?:data|record) (\S+)', body, re.M)
+    crate = file.relative_to(root / 'crates').parts[0]
+    declared.setdefault((crate, file.stem), set()).update(names)
+every = set().union(*declared.values())
+for file in root.glob('crates/*/src/*.rt'):
+    every |= set(re.findall(r'\b(\w+)\b', file.read_text(encoding='utf-8')))
+bad = []
+for word in re.findall(r'`([^`]+)`', text):
+    place = re.fullmatch(r'([a-z]+)/([A-Z]\w*)(?:\.(\S+))?', word)
+    if place:
+        crate, stem, name = place.groups()
+        if (crate, stem) not in declared:
+            bad.append(f'no file {word}')
+        elif name and name not in declared[crate, stem]:
+            bad.append(f'{stem}.antt of {crate} declares no {name}')
+    elif re.fullmatch(r'[A-Za-z][\w-]*(?:(?:\.|::)[\w-]+)*(?:\(\w+\))?', word):
+        for part in re.split(r'\.|::|\(|\)', word):
+            if part and part not in every and part not in ('campaign_plan', 'requires', 'specs', 'antt'):
+                bad.append(f'nothing declares {part} (in `{word}`)')
+edits = {f'{e.parts[-3]}/{e.stem}' for e in root.glob('crates/*/must-fail/*.edit')}
+crates = '|'.join(sorted({c for c, _ in declared}))
+named = set(re.findall(rf'\b((?:{crates})/[a-z]\w*_\w+)\b', text))
+bad += [f'no edit {e}' for e in sorted(named - edits)] + [f'edit {e} is not named' for e in sorted(edits - named)]
+for line in bad:
+    print('docs/PROMISES.md:', line)
+sys.exit(1 if bad else 0)
