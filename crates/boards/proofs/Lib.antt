@@ -8,3 +8,7 @@ pub mod Moving
 pub mod Counting
 pub mod Listed
 pub mod Cases
+pub mod Begun
+pub mod Alive
+pub mod Holding
+pub mod Claim

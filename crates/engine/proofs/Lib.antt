@@ -1,3 +1,10 @@
 pub mod Listed
 pub mod Cases
 pub mod Calls
+pub mod Memory
+pub mod Wrapping
+pub mod Totals
+pub mod Runs
+pub mod Lists
+pub mod Gathering
+pub mod Delivered

@@ -14,3 +14,5 @@ pub mod Least
 pub mod Attained
 pub mod Room
 pub mod Demand
+pub mod Judging
+pub mod Accepting

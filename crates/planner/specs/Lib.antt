@@ -4,3 +4,4 @@ pub mod Refusals
 pub mod Answers
 pub mod Computing
 pub mod Trees
+pub mod Accepted

@@ -1,0 +1,63 @@
+-- Sums modulo 2^64: wrapping on the way changes nothing in the end.
+use Prim.Native.Nat.{ℕ, zero, suc, _<_, _-_, _+_, _%_, _^_}
+use mathlib.Core.Path.{_≡_, sym, _∙_, refl, ap, ap₂}
+use mathlib.Core.Bool.{Bool, true, false, cond}
+use native.Mathlib.Omega.{arith}
+use borrow.Author.Tests.{ltb-true, ltb-false}
+use lib.Dec.{ltb}
+use lib.IntN.{ℤ, pos, negsuc, _+ℤ_, subℕ, +ℤ-idr, +ℤ-comm}
+use mir.Syntax.{w64}
+use mir.Val.{toZ, sel}
+use Rattle.cube.specs.Boxes.{sumZ}
+use Rattle.engine.specs.Memory.{residue, wrapped}
+
+neg-mod : (a b : ℕ) → residue (subℕ a (suc b)) ≡ (a % 2 ^ 64 + (2 ^ 64 - 1 - b % 2 ^ 64)) % 2 ^ 64
+unfolding residue
+neg-mod a b = go (ltb a (suc b)) refl
+  where
+    go : (t : Bool) → ltb a (suc b) ≡ t → residue (cond t (negsuc (suc b - suc a)) (pos (a - suc b))) ≡ (a % 2 ^ 64 + (2 ^ 64 - 1 - b % 2 ^ 64)) % 2 ^ 64
+    go true e = let h = ltb-true a (suc b) e in omega arith
+    go false e = let h = ltb-false a (suc b) e in omega arith
+
+residue-add : (a b : ℤ) → residue (a +ℤ b) ≡ (residue a + residue b) % 2 ^ 64
+unfolding residue
+residue-add (pos m) (pos n) = omega arith
+residue-add (pos m) (negsuc n) = neg-mod m n
+residue-add (negsuc m) (pos n) =
+    let e : (2 ^ 64 - 1 - m % 2 ^ 64 + n % 2 ^ 64) ≡ n % 2 ^ 64 + (2 ^ 64 - 1 - m % 2 ^ 64) = omega arith in
+    rw e (neg-mod n m)
+residue-add (negsuc m) (negsuc n) = omega arith
+
+residue-toZ : (n : ℕ) → n < 2 ^ 64 → residue (toZ w64 n) ≡ n
+unfolding residue
+residue-toZ n h = go (ltb n 9223372036854775808) refl
+  where
+    go : (t : Bool) → ltb n 9223372036854775808 ≡ t → residue (sel t (pos n) (negsuc (18446744073709551616 - suc n))) ≡ n
+    go true e = omega arith
+    go false e = omega arith
+
+residue-lt : (z : ℤ) → residue z < 2 ^ 64
+unfolding residue
+residue-lt (pos n) = omega arith
+residue-lt (negsuc n) = omega arith
+
+pub wrapped-add : (a b : ℤ) → wrapped (wrapped a +ℤ b) ≡ wrapped (a +ℤ b)
+unfolding wrapped
+wrapped-add a b =
+    ap (toZ w64) (residue-add (wrapped a) b ∙ ap (λ (x : ℕ). (x + residue b) % 2 ^ 64) (residue-toZ (residue a) (residue-lt a)) ∙ sym (residue-add a b))
+
+pub wrapped-add-right : (a b : ℤ) → wrapped (a +ℤ wrapped b) ≡ wrapped (a +ℤ b)
+wrapped-add-right a b = ap wrapped (+ℤ-comm a (wrapped b)) ∙ wrapped-add b a ∙ ap wrapped (+ℤ-comm b a)
+
+pub wrapped-both : (a b : ℤ) → wrapped (wrapped a +ℤ wrapped b) ≡ wrapped (a +ℤ b)
+wrapped-both a b = wrapped-add a (wrapped b) ∙ wrapped-add-right a b
+
+pub wrapped-twice : (a : ℤ) → wrapped (wrapped a) ≡ wrapped a
+wrapped-twice a = ap wrapped (sym (+ℤ-idr (wrapped a))) ∙ wrapped-add a (pos 0) ∙ ap wrapped (+ℤ-idr a)
+
+-- terms equal modulo 2^64 have sums equal modulo 2^64
+pub wrapped-sum : (n : ℕ) (f h : ℕ → ℤ) → ((m : ℕ) → m < n → wrapped (f m) ≡ wrapped (h m)) → wrapped (sumZ n f) ≡ wrapped (sumZ n h)
+unfolding sumZ
+wrapped-sum zero f h e = refl
+wrapped-sum (suc n) f h e =
+    sym (wrapped-both (sumZ n f) (f n)) ∙ ap₂ (λ a b. wrapped (a +ℤ b)) (wrapped-sum n f h (λ m l. e m (omega arith))) (e n (omega arith)) ∙ wrapped-both (sumZ n h) (h n)
