@@ -10,5 +10,6 @@ pub mod Digits
 pub mod Counting
 pub mod Cases
 pub mod Tables
+pub mod Slots
 pub mod Masks
 pub mod Axes

@@ -16,3 +16,9 @@ pub mod Room
 pub mod Demand
 pub mod Judging
 pub mod Accepting
+pub mod Inserting
+pub mod Sorting
+pub mod Raising
+pub mod Bounding
+pub mod Finding
+pub mod Arranging

@@ -1,6 +1,7 @@
 -- What planning and pricing answer.
 use Prim.Native.Nat.{ℕ, zero, suc}
 use mathlib.Core.List.{List, []}
+use Rattle.cube.specs.Limits.{padded}
 use Rattle.cube.specs.Checks.{Reply, gives, refuses, answered}
 use Rattle.planner.specs.declared.types.Plan.{Plan}
 use Rattle.planner.specs.declared.types.Prices.{Prices}
@@ -8,7 +9,8 @@ use Rattle.planner.specs.declared.types.Priced.{Priced}
 use Rattle.planner.specs.declared.types.Priced.the-variants as Priced′
 use Rattle.planner.specs.declared.types.Planned.{Planned}
 use Rattle.planner.specs.Plans.{PlanLists, moved, added, shareSize, listsOf, slotted}
-use Rattle.planner.specs.Rule.{planOf}
+use Rattle.planner.specs.declared.types.Arrangement.{Arrangement}
+use Rattle.planner.specs.Rule.{order, orderedExponents, planOf}
 use Rattle.planner.specs.Refusals.{planningRefusal, planRefusal}
 
 -- a plan's prices
@@ -32,3 +34,7 @@ plannedAs (suc n) a =
 
 unfoldable pub planning : List ℕ → ℕ → Planned
 planning ds p = plannedAs (planningRefusal ds p) (planOf ds p)
+
+-- the planner's order and exponents, both in plan order, in slots
+unfoldable pub arrangement : List ℕ → ℕ → Arrangement
+arrangement ds p = record { order = padded (order ds); exponents = padded (orderedExponents ds p) }

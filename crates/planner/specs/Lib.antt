@@ -5,3 +5,4 @@ pub mod Answers
 pub mod Computing
 pub mod Trees
 pub mod Accepted
+pub mod Choosing

@@ -27,3 +27,9 @@ pub struct Planned {
     pub plan: Plan,
     pub prices: Prices,
 }
+
+// The axis numbers and the exponents, both in plan order.
+pub struct Arrangement {
+    pub order: [u8; 8],
+    pub exponents: [u8; 8],
+}
