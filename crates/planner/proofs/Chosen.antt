@@ -86,7 +86,7 @@ module _ (ds : List ℕ) (p : ℕ) where
   pub planned-length : length planned ≡ length ds
   planned-length = along-length ds planned planned-lens
 
-  exponents-length : length (orderedExponents ds p) ≡ length ds
+  pub exponents-length : length (orderedExponents ds p) ≡ length ds
   exponents-length = ap length (sym planned-keys) ∙ keys-length planned ∙ planned-length
 
   -- the exponent of an axis stands at its place of the order

@@ -22,3 +22,4 @@ pub mod Raising
 pub mod Bounding
 pub mod Finding
 pub mod Arranging
+pub mod Deciding

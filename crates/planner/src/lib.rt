@@ -1,3 +1,4 @@
 pub mod checks;
+pub mod planning;
 pub mod rule;
 pub mod types;
