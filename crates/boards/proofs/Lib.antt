@@ -12,3 +12,4 @@ pub mod Begun
 pub mod Alive
 pub mod Holding
 pub mod Claim
+pub mod Around

@@ -8,3 +8,9 @@ pub mod Runs
 pub mod Lists
 pub mod Gathering
 pub mod Delivered
+pub mod Loops
+pub mod Expanding
+pub mod Ranges
+pub mod Positions
+pub mod Claimed
+pub mod Unwrapped

@@ -1,19 +1,17 @@
 -- The same for a work area that is a list, as the engine is lent one; and over an accepted array no total wraps.
-use Prim.Native.Nat.{ℕ, zero, suc, _+_, _-_, _*_, _^_, _≤_, _<_}
+use Prim.Native.Nat.{ℕ, _*_, _^_, _≤_, _<_}
 use mathlib.Core.Path.{_≡_, sym, _∙_, refl, ap, fun-ext}
-use mathlib.Core.Bool.{Bool, true, false, cond}
 use mathlib.Core.List.{List, [], _∷_, _++_}
-use native.Mathlib.Nat.{zero-add, suc-mul, mul-le-mul, le-div-iff-mul-le, le-refl}
+use native.Mathlib.Nat.{zero-add, le-div-iff-mul-le}
 use native.Mathlib.Omega.{arith}
 use borrow.Author.Tests.{ltb-true, ltb-false, le-ltb, ne-eqb}
 use lib.Dec.{ltb}
 use lib.ListN.{length, List·getD-eq-default}
-use lib.IntN.{ℤ, pos, negsuc, _+ℤ_, natAbs}
+use lib.IntN.{ℤ, pos, natAbs}
 use mir.Syntax.{w64}
-use mir.Val.{SFits, ofZ}
-use mir.Facts.{toZ-ofZ}
+use mir.Val.{SFits}
 use Rattle.cube.specs.Limits.{pointLimit}
-use Rattle.cube.specs.Boxes.{pick, sumZ, tableFrom}
+use Rattle.cube.specs.Boxes.{tableFrom}
 use Rattle.cube.specs.Choices.{points, agrees, total}
 use Rattle.cube.specs.Tree as Tree
 use Rattle.cube.specs.Tree.{has, kept}
@@ -24,8 +22,9 @@ use Rattle.boards.specs.Grids.{Grid, Lawful, boards, regionSize, share, boardOf
 use Rattle.boards.specs.Steps.{TreeStep, expand, transfer, finish, steps}
 use Rattle.boards.proofs.Boards.{most-pos}
 use Rattle.boards.proofs.Every.{Every, every-append, every-first, every-step}
-use Rattle.engine.specs.Memory.{residue, wrapped, forms, after, read, stepped, ran}
+use Rattle.engine.specs.Memory.{wrapped, forms, after, read, stepped, ran}
 use Rattle.engine.proofs.Memory.{run, region-in}
+use Rattle.engine.proofs.Wrapping.{wrapped-fits, sum-fits, pick-small}
 use Rattle.engine.proofs.Totals.{Law}
 use Rattle.engine.proofs.Runs.{Final, run-exact}
 
@@ -33,12 +32,12 @@ use Rattle.engine.proofs.Runs.{Final, run-exact}
 
 module _ (g : Grid) where
   -- a transfer has a board to go to
-  abbrev Sent : TreeStep → Type 0
+  abbrev pub Sent : TreeStep → Type 0
   Sent (expand Y) = Unit {0}
   Sent (transfer Y s r n) = r < boards g
   Sent (finish Y) = Unit {0}
 
-  sent-steps : Every Sent (steps g)
+  pub sent-steps : Every Sent (steps g)
   sent-steps = every-step Sent g (λ Y h. tt) (λ Y s r n h. h) (λ Y h. tt)
 
   module _ (ok : Lawful g) (some : 0 < g .axes) where
@@ -47,7 +46,7 @@ module _ (g : Grid) where
     region-pos =
         product-pos _ (g .axes) 0 (λ i l r. let m = most-pos g ok i (omega arith) in by (has (0 ∷ []) i) (λ t. rw t (omega arith)) (λ t. rw t m))
 
-    share-pos : 0 < share g
+    pub share-pos : 0 < share g
     share-pos = let p = region-pos in let q = region-in g 0 some in omega arith
 
     board-past : (i : ℕ) → boards g * share g ≤ i → boards g ≤ boardOf g i
@@ -93,57 +92,13 @@ module _ (g : Grid) where
         let s : Every Sent (before ++ (finish Y ∷ [])) = every-append Sent before (finish Y ∷ []) (every-first Sent before (finish Y ∷ rest) (rw e at sent-steps)) (tt, tt) in
         ran-reads array (before ++ (finish Y ∷ [])) work s fits (cellAt g Y b x) ∙ run-exact g ok (read array) T law (read work) before rest Y e b x h t w
 
--- ---- nothing wraps
-
-residue-bits : (z : ℤ) → SFits w64 z → residue z ≡ ofZ w64 z
-unfolding residue
-residue-bits (pos n) f = let h : n < 2 ^ 63 = f .sfits in omega arith
-residue-bits (negsuc n) f = let h : n < 2 ^ 63 = f .sfits in omega arith
-
-small-fits : (z : ℤ) → natAbs z < 2 ^ 63 → SFits w64 z
-small-fits (pos n) h = record { sfits = h }
-small-fits (negsuc n) h = record { sfits = omega arith }
-
-pub wrapped-fits : (z : ℤ) → SFits w64 z → wrapped z ≡ z
-unfolding wrapped
-wrapped-fits z f = rw (residue-bits z f) (toZ-ofZ f)
-
-abs-add : (a b : ℤ) → natAbs (a +ℤ b) ≤ natAbs a + natAbs b
-abs-add (pos m) (pos n) = omega arith
-abs-add (pos m) (negsuc n) = go (ltb m (suc n)) refl
-  where
-    go : (t : Bool) → ltb m (suc n) ≡ t → natAbs (cond t (negsuc (suc n - suc m)) (pos (m - suc n))) ≤ m + suc n
-    go true e = let h = ltb-true m (suc n) e in omega arith
-    go false e = omega arith
-abs-add (negsuc m) (pos n) = go (ltb n (suc m)) refl
-  where
-    go : (t : Bool) → ltb n (suc m) ≡ t → natAbs (cond t (negsuc (suc m - suc n)) (pos (n - suc m))) ≤ suc m + n
-    go true e = let h = ltb-true n (suc m) e in omega arith
-    go false e = omega arith
-abs-add (negsuc m) (negsuc n) = omega arith
-
-abs-sum : (n B : ℕ) (f : ℕ → ℤ) → ((i : ℕ) → natAbs (f i) ≤ B) → natAbs (sumZ n f) ≤ n * B
-unfolding sumZ
-abs-sum zero B f h = omega arith
-abs-sum (suc n) B f h =
-    let p = abs-add (sumZ n f) (f n) in
-    let q = abs-sum n B f h in
-    let r = h n in
-    let s = suc-mul n B in
-    omega arith
+-- ---- no total wraps
 
 module _ (ds : List ℕ) (array : ℕ → ℤ) (small : (i : ℕ) → natAbs (array i) ≤ 2 ^ 31) (few : points ds ≤ pointLimit) (mask : ℕ) (x : ℕ → ℕ) where
   -- a total of at most 2^24 points of at most 2^31 is a signed 64-bit number
   pub total-fits : SFits w64 (total ds array mask x)
   unfolding total
-  total-fits =
-      let p : natAbs (total ds array mask x) ≤ points ds * 2 ^ 31 = abs-sum (points ds) (2 ^ 31) _ (λ q. one (agrees ds mask q x (length ds)) (array q) (small q)) in
-      let q : points ds * 2 ^ 31 ≤ 2 ^ 24 * 2 ^ 31 = mul-le-mul few (le-refl (2 ^ 31)) in
-      small-fits (total ds array mask x) (omega arith)
-    where
-      one : (t : Bool) (v : ℤ) → natAbs v ≤ 2 ^ 31 → natAbs (pick t v (pos 0)) ≤ 2 ^ 31
-      one true v h = h
-      one false v h = omega arith
+  total-fits = sum-fits (points ds) _ few (λ q. pick-small (agrees ds mask q x (length ds)) (array q) (small q))
 
   -- so it never wraps
   pub total-small : wrapped (total ds array mask x) ≡ total ds array mask x

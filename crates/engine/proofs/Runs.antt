@@ -13,7 +13,7 @@ use Rattle.cube.specs.Tree.{has, kept, next, lastOf}
 use Rattle.cube.proofs.Sums.{by, put-same, put-other, sum-cong, sum-append}
 use Rattle.cube.proofs.Naturals.{both}
 use Rattle.cube.proofs.Sets.{Down, down-up, down-out, has-head}
-use Rattle.boards.specs.Grids.{Grid, Lawful, boards, label, withLabel, lead, extent, box, global, boardOf, regionOf, cellAt}
+use Rattle.boards.specs.Grids.{Grid, Lawful, boards, label, withLabel, lead, extent, box, cells, global, boardOf, regionOf, cellAt}
 use Rattle.boards.specs.Steps.{TreeStep, expand, transfer, finish, each, sends, transfers, visit, walk, steps}
 use Rattle.boards.proofs.Boards as Boards
 use Rattle.boards.proofs.Moving.{lead-each}
@@ -80,13 +80,31 @@ module _ (g : Grid) (ok : Lawful g) where
       go zero l e = let q : l ≡ g .parts d = omega arith in rw (q, ok .last d r) (omega arith)
       go (suc m) l e = let p = go m (suc l) (omega arith) in let q = ok .rising d l r (omega arith) in omega arith
 
-  global-within : (b : ℕ) (x : ℕ → ℕ) → b < boards g → Within (g .axes) (box g [] b) x → Within (g .axes) (g .len) (global g b x)
+  pub global-within : (b : ℕ) (x : ℕ → ℕ) → b < boards g → Within (g .axes) (box g [] b) x → Within (g .axes) (g .len) (global g b x)
   unfolding global box kept has extent
   global-within b x h w d u =
       let l = Boards.label-lt g ok b d h u in
       let p = start-le d (suc (label g b d)) u l in
       let q : x d < g .start d (suc (label g b d)) - g .start d (label g b d) = w d u in
       omega arith
+
+-- ---- what a step finds
+
+-- the part of the sum over axis j that portion l holds
+unfoldable pub piece : Grid → (List ℕ → (ℕ → ℕ) → ℤ) → List ℕ → ℕ → (ℕ → ℕ) → ℕ → ℤ
+piece g T Y j z l = sumZ (g .start j (suc l) - g .start j l) (λ m. T Y (put z j (g .start j l + m)))
+
+-- a transfer: the lead's cells hold the sum of the pieces up to some label, and the sender's cells the next piece
+pub record Sending (g : Grid) (T : List ℕ → (ℕ → ℕ) → ℤ) (Y : List ℕ) (j s b n : ℕ) (work : ℕ → ℤ) : Type 0 where
+  pub board : b < boards g
+  pub axis : j < g .axes
+  pub out : has Y j ≡ false
+  pub upto : ℕ
+  pub less : suc upto < g .parts j
+  pub sender : s ≡ withLabel g b j (suc upto)
+  pub count : n ≡ cells g (j ∷ Y) s
+  pub own : (x : ℕ → ℕ) → Within (g .axes) (box g (j ∷ Y) b) x → work (cellAt g (j ∷ Y) b x) ≡ wrapped (sumZ (suc upto) (piece g T Y j (global g b x)))
+  pub other : (x : ℕ → ℕ) → Within (g .axes) (box g (j ∷ Y) b) x → work (cellAt g (j ∷ Y) s x) ≡ wrapped (piece g T Y j (global g b x) (suc upto))
 
 module _ (g : Grid) (array : ℕ → ℤ) (T : List ℕ → (ℕ → ℕ) → ℤ) where
   run-append : (a b : List TreeStep) (work : ℕ → ℤ) → run g array (a ++ b) work ≡ run g array b (run g array a work)
@@ -103,34 +121,28 @@ module _ (g : Grid) (array : ℕ → ℤ) (T : List ℕ → (ℕ → ℕ) → �
   each-keeps zero f work i h = refl
   each-keeps (suc n) f work i h = append-keeps (each n f) (f n) work i (λ w. each-keeps n f w i (λ b l. h b (omega arith))) (h n (omega arith))
 
-  -- ---- at each finish of a list of steps the totals stand
+  -- ---- each step of a list finds what it needs: an expansion the totals of its choice, and so does a finish
 
-  abbrev Right : TreeStep → (ℕ → ℤ) → Type 0
-  Right (expand Y) work = Unit {0}
-  Right (transfer Y s r n) work = Unit {0}
+  abbrev pub Right : TreeStep → (ℕ → ℤ) → Type 0
+  Right (expand []) work = Unit {0}
+  Right (expand (k ∷ Z)) work = Down (k ∷ Z) (g .axes) × Final g T (k ∷ Z) work
+  Right (transfer [] s b n) work = ⊥
+  Right (transfer (j ∷ Y) s b n) work = Sending g T Y j s b n work
   Right (finish Y) work = Final g T Y work
 
-  abbrev Exact : List TreeStep → (ℕ → ℤ) → Type 0
+  abbrev pub Exact : List TreeStep → (ℕ → ℤ) → Type 0
   Exact [] work = Unit {0}
   Exact (s ∷ l) work = Right s work × Exact l (after g array s work)
 
-  exact-append : (a b : List TreeStep) (work : ℕ → ℤ) → Exact a work → Exact b (run g array a work) → Exact (a ++ b) work
+  pub exact-append : (a b : List TreeStep) (work : ℕ → ℤ) → Exact a work → Exact b (run g array a work) → Exact (a ++ b) work
   unfolding run
   exact-append [] b work p q = q
   exact-append (s ∷ a) b work p q = (p .0, exact-append a b (after g array s work) (p .1) q)
 
-  exact-each : (n : ℕ) (f : ℕ → List TreeStep) (work : ℕ → ℤ) → ((b : ℕ) (w : ℕ → ℤ) → Exact (f b) w) → Exact (each n f) work
+  exact-each : (n : ℕ) (f : ℕ → List TreeStep) (work : ℕ → ℤ) → ((b : ℕ) → b < n → Exact (f b) (run g array (each b f) work)) → Exact (each n f) work
   unfolding each
   exact-each zero f work h = tt
-  exact-each (suc n) f work h = exact-append (each n f) (f n) work (exact-each n f work h) (h n (run g array (each n f) work))
-
-  exact-transfers : (Y : List ℕ) (n : ℕ) (work : ℕ → ℤ) → Exact (transfers g Y n) work
-  unfolding transfers
-  exact-transfers Y n work = exact-each n _ work (λ b w. pieces b (lead g Y b) w)
-    where
-      pieces : (b : ℕ) (t : Bool) (w : ℕ → ℤ) → Exact (pick t (sends g Y b (g .parts (lastOf Y) - 1)) []) w
-      pieces b true w = unfold sends in exact-each (g .parts (lastOf Y) - 1) _ w (λ l v. (tt, tt))
-      pieces b false w = tt
+  exact-each (suc n) f work h = exact-append (each n f) (f n) work (exact-each n f work (λ b l. h b (omega arith))) (h n (omega arith))
 
   module _ (ok : Lawful g) (law : Law g array T) where
     -- ---- what transfers leave alone
@@ -157,18 +169,14 @@ module _ (g : Grid) (array : ℕ → ℤ) (T : List ℕ → (ℕ → ℕ) → �
 
     -- ---- one axis: portions make up the whole
 
-    -- the part of the sum over axis j that portion l holds
-    piece : List ℕ → ℕ → (ℕ → ℕ) → ℕ → ℤ
-    piece Y j z l = sumZ (g .start j (suc l) - g .start j l) (λ m. T Y (put z j (g .start j l + m)))
-
-    pieces : (Y : List ℕ) (j : ℕ) (z : ℕ → ℕ) → j < g .axes → (n : ℕ) → n ≤ g .parts j → sumZ n (piece Y j z) ≡ sumZ (g .start j n) (λ v. T Y (put z j v))
+    pub pieces : (Y : List ℕ) (j : ℕ) (z : ℕ → ℕ) → j < g .axes → (n : ℕ) → n ≤ g .parts j → sumZ n (piece g T Y j z) ≡ sumZ (g .start j n) (λ v. T Y (put z j v))
     unfolding sumZ piece
     pieces Y j z r zero h = rw (ok .first j r)
     pieces Y j z r (suc n) h =
         let e : g .start j n + (g .start j (suc n) - g .start j n) ≡ g .start j (suc n) = (let q = ok .rising j n r h in omega arith) in
-        ap (λ s. s +ℤ piece Y j z n) (pieces Y j z r n (omega arith)) ∙ sym (sum-append (g .start j n) (g .start j (suc n) - g .start j n) (λ v. T Y (put z j v))) ∙ ap (λ n. sumZ n (λ v. T Y (put z j v))) e
+        ap (λ s. s +ℤ piece g T Y j z n) (pieces Y j z r n (omega arith)) ∙ sym (sum-append (g .start j n) (g .start j (suc n) - g .start j n) (λ v. T Y (put z j v))) ∙ ap (λ n. sumZ n (λ v. T Y (put z j v))) e
 
-    pieces-total : (Y : List ℕ) (j : ℕ) (z : ℕ → ℕ) → j < g .axes → has Y j ≡ false → sumZ (g .parts j) (piece Y j z) ≡ T (j ∷ Y) z
+    pieces-total : (Y : List ℕ) (j : ℕ) (z : ℕ → ℕ) → j < g .axes → has Y j ≡ false → sumZ (g .parts j) (piece g T Y j z) ≡ T (j ∷ Y) z
     pieces-total Y j z r out =
         pieces Y j z r (g .parts j) (omega arith) ∙ ap (λ n. sumZ n (λ v. T Y (put z j v))) (ok .last j r) ∙ sym (law .sum Y j z out r)
 
@@ -228,10 +236,10 @@ module _ (g : Grid) (array : ℕ → ℤ) (T : List ℕ → (ℕ → ℕ) → �
     -- the cells of (Y , j), on the boards that form them, hold the sums over the board's own portion of axis j
     Formed : List ℕ → ℕ → (ℕ → ℤ) → Type 0
     Formed Y j work =
-        (b : ℕ) (x : ℕ → ℕ) → b < boards g → lead g Y b ≡ true → Within (g .axes) (box g (j ∷ Y) b) x → work (cellAt g (j ∷ Y) b x) ≡ wrapped (piece Y j (global g b x) (label g b j))
+        (b : ℕ) (x : ℕ → ℕ) → b < boards g → lead g Y b ≡ true → Within (g .axes) (box g (j ∷ Y) b) x → work (cellAt g (j ∷ Y) b x) ≡ wrapped (piece g T Y j (global g b x) (label g b j))
 
     -- a piece is the same seen from the lead and from the sender
-    piece-cong : (Y : List ℕ) (j l : ℕ) (z z′ : ℕ → ℕ) → ((d : ℕ) → d < g .axes → (d ≡ j → ⊥) → z d ≡ z′ d) → piece Y j z l ≡ piece Y j z′ l
+    piece-cong : (Y : List ℕ) (j l : ℕ) (z z′ : ℕ → ℕ) → ((d : ℕ) → d < g .axes → (d ≡ j → ⊥) → z d ≡ z′ d) → piece g T Y j z l ≡ piece g T Y j z′ l
     unfolding piece
     piece-cong Y j l z z′ h =
         sum-cong (g .start j (suc l) - g .start j l)
@@ -239,17 +247,47 @@ module _ (g : Grid) (array : ℕ → ℤ) (T : List ℕ → (ℕ → ℕ) → �
         law .alike Y _ _
         (λ d u s. by (eqb d j) (λ e. rw (eqb-true d j e) (simp put-same)) (λ e. rw (put-other z j _ d (eqb-false d j e), put-other z′ j _ d (eqb-false d j e)) (h d u (eqb-false d j e)))))
 
-    transfers-final : (Y : List ℕ) (j : ℕ) (work : ℕ → ℤ) → j < g .axes → Down Y j → Formed Y j work → Final g T (j ∷ Y) (run g array (transfers g (j ∷ Y) (boards g)) work)
-    unfolding Final Formed global
-    transfers-final Y j work r q f b x h t w =
-        transfers-add Y j b x r h t w (piece Y j (global g b x)) work
-        (record {
-          own = f b x h (lead-parent g ok Y b j t) w ∙ ap (λ l. wrapped (piece Y j (global g b x) l)) (lead-zero g ok Y b j t);
-          others =
-              λ l k.
-              f (withLabel g b j (suc l)) x (Boards.sender-lt g ok b j (suc l) h k) (sender-leads g ok Y b j (suc l) h k r q ∙ lead-parent g ok Y b j t) (sender-within Y j b x r h t w (suc l) k) ∙ ap wrapped (ap (piece Y j _) (Boards.sender-same g ok b j (suc l) h k r) ∙ piece-cong Y j (suc l) _ _ (λ d u ne. ap (λ l. g .start d l + x d) (Boards.sender-other g ok b j (suc l) d h k u ne)));
-        })
-        (boards g) h ∙ ap wrapped (pieces-total Y j (global g b x) r (down-out Y j j q (omega arith)))
+    module _ (Y : List ℕ) (j : ℕ) (work : ℕ → ℤ) (r : j < g .axes) (q : Down Y j) (f : Formed Y j work) where
+      pieces-formed : (b : ℕ) (x : ℕ → ℕ) (h : b < boards g) (t : lead g (j ∷ Y) b ≡ true) (w : Within (g .axes) (box g (j ∷ Y) b) x) → Pieces Y j b x r h t w (piece g T Y j (global g b x)) work
+      unfolding Formed global
+      pieces-formed b x h t w =
+          record {
+            own = f b x h (lead-parent g ok Y b j t) w ∙ ap (λ l. wrapped (piece g T Y j (global g b x) l)) (lead-zero g ok Y b j t);
+            others =
+                λ l k.
+                f (withLabel g b j (suc l)) x (Boards.sender-lt g ok b j (suc l) h k) (sender-leads g ok Y b j (suc l) h k r q ∙ lead-parent g ok Y b j t) (sender-within Y j b x r h t w (suc l) k) ∙ ap wrapped (ap (piece g T Y j _) (Boards.sender-same g ok b j (suc l) h k r) ∙ piece-cong Y j (suc l) _ _ (λ d u ne. ap (λ l. g .start d l + x d) (Boards.sender-other g ok b j (suc l) d h k u ne)));
+          }
+
+      transfers-final : Final g T (j ∷ Y) (run g array (transfers g (j ∷ Y) (boards g)) work)
+      unfolding Final
+      transfers-final b x h t w =
+          transfers-add Y j b x r h t w (piece g T Y j (global g b x)) work (pieces-formed b x h t w) (boards g) h ∙ ap wrapped (pieces-total Y j (global g b x) r (down-out Y j j q (omega arith)))
+
+      sends-exact : (b : ℕ) → b < boards g → lead g (j ∷ Y) b ≡ true → Exact (sends g (j ∷ Y) b (g .parts j - 1)) (run g array (transfers g (j ∷ Y) b) work)
+      unfolding sends
+      sends-exact b h t = exact-each (g .parts j - 1) _ _ (λ l u. (one l (omega arith), tt))
+        where
+          one : (l : ℕ) → suc l < g .parts j → Sending g T Y j (withLabel g b j (suc l)) b (cells g (j ∷ Y) (withLabel g b j (suc l))) (run g array (sends g (j ∷ Y) b l) (run g array (transfers g (j ∷ Y) b) work))
+          one l k =
+              record {
+                board = h;
+                axis = r;
+                out = down-out Y j j q (omega arith);
+                upto = l;
+                less = k;
+                sender = refl;
+                count = refl;
+                own =
+                    λ x w.
+                    sends-add Y j b x r h t w (piece g T Y j (global g b x)) _ (not-reached Y j b x r h t w (piece g T Y j (global g b x)) work b (omega arith) (pieces-formed b x h t w)) l (omega arith);
+                other =
+                    λ x w.
+                    sender-kept Y j b x r h t w l l _ k ∙ not-reached Y j b x r h t w (piece g T Y j (global g b x)) work b (omega arith) (pieces-formed b x h t w) .others l k;
+              }
+
+      transfers-exact : Exact (transfers g (j ∷ Y) (boards g)) work
+      unfolding transfers
+      transfers-exact = exact-each (boards g) _ work (λ b u. by (lead g (j ∷ Y) b) (λ t. rw t (unfold transfers in sends-exact b u t)) (λ t. rw t tt))
 
     -- ---- expanding a choice whose cells are final forms its children
 
@@ -302,7 +340,7 @@ module _ (g : Grid) (array : ℕ → ℤ) (T : List ℕ → (ℕ → ℕ) → �
         exact-append inner (finish (j ∷ Y) ∷ []) work (exact work (λ k l r. absurd (omega arith))) (totals-kept Y j work _ (omega arith) (λ i h. keep work i (omega arith)) f, tt)
     visit-exact (suc m) j Y inner work e q keep exact f =
         let formed : ℕ → ℤ = after g array (expand (j ∷ Y)) work in
-        (tt, exact-append inner (finish (j ∷ Y) ∷ []) formed (exact formed (λ k l r. expand-formed (j ∷ Y) k work r (down-out (j ∷ Y) k k (l, q) (omega arith)) (le-leb (suc j) k l) (totals-ready Y j work f))) (totals-kept Y j work _ (omega arith) (λ i h. keep formed i (omega arith) ∙ Memory.expand-keeps g ok array work Y j i (omega arith)) f, tt))
+        (((omega arith, q), f), exact-append inner (finish (j ∷ Y) ∷ []) formed (exact formed (λ k l r. expand-formed (j ∷ Y) k work r (down-out (j ∷ Y) k k (l, q) (omega arith)) (le-leb (suc j) k l) (totals-ready Y j work f))) (totals-kept Y j work _ (omega arith) (λ i h. keep formed i (omega arith) ∙ Memory.expand-keeps g ok array work Y j i (omega arith)) f, tt))
 
     walk-exact : (m d : ℕ) (Y : List ℕ) (work : ℕ → ℤ) → d + m ≡ g .axes → Down Y d → ((j : ℕ) → d ≤ j → j < g .axes → Formed Y j work) → Exact (walk g m d Y) work
     unfolding walk
@@ -311,7 +349,7 @@ module _ (g : Grid) (array : ℕ → ℤ) (T : List ℕ → (ℕ → ℕ) → �
         let w₁ : ℕ → ℤ = run g array (walk g m (d + 1) Y) work in
         let w₂ : ℕ → ℤ = run g array (transfers g (d ∷ Y) (boards g)) w₁ in
         let f₁ : Formed Y d w₁ = formed-kept Y d work w₁ (omega arith) (λ i h. walk-keeps m (d + 1) Y work i (omega arith)) (f d (omega arith) (omega arith)) in
-        exact-append (walk g m (d + 1) Y) _ work (walk-exact m (d + 1) Y work (omega arith) (down-up Y d (d + 1) (omega arith) q) (λ j l r. f j (omega arith) r)) (exact-append (transfers g (d ∷ Y) (boards g)) _ w₁ (exact-transfers (d ∷ Y) (boards g) w₁) (visit-exact m d Y _ w₂ (omega arith) q (λ w i h. walk-keeps m (d + 1) (d ∷ Y) w i (omega arith)) (λ w k. walk-exact m (d + 1) (d ∷ Y) w (omega arith) (omega arith, q) (λ j l r. k j (omega arith) r)) (transfers-final Y d w₁ (omega arith) q f₁)))
+        exact-append (walk g m (d + 1) Y) _ work (walk-exact m (d + 1) Y work (omega arith) (down-up Y d (d + 1) (omega arith) q) (λ j l r. f j (omega arith) r)) (exact-append (transfers g (d ∷ Y) (boards g)) _ w₁ (transfers-exact Y d w₁ (omega arith) q f₁) (visit-exact m d Y _ w₂ (omega arith) q (λ w i h. walk-keeps m (d + 1) (d ∷ Y) w i (omega arith)) (λ w k. walk-exact m (d + 1) (d ∷ Y) w (omega arith) (omega arith, q) (λ j l r. k j (omega arith) r)) (transfers-final Y d w₁ (omega arith) q f₁)))
 
     -- the whole list, from any work area
     pub steps-exact : (work : ℕ → ℤ) → Exact (steps g) work

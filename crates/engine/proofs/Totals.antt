@@ -76,16 +76,19 @@ module _ (ds : List ℕ) where
     pick-both true t v = refl
     pick-both false t v = refl
 
+    -- totals at some positions v 0, v 1, .. on axis a, point by point
+    pub totals-along : (array : ℕ → ℤ) (x : ℕ → ℕ) (n : ℕ) (v : ℕ → ℕ) → a < length ds → sumZ n (λ m. total ds array mask (put x a (v m))) ≡ sumZ (points ds) (λ q. sumZ n (λ m. pick (eqb (pointPosition ds q a) (v m)) (pick (agrees ds less q x (length ds)) (array q) (pos 0)) (pos 0)))
+    unfolding total
+    totals-along array x n v r =
+        sum-swap n (points ds) (λ m q. pick (agrees ds mask q (put x a (v m)) (length ds)) (array q) (pos 0)) ∙ sum-cong (points ds) (λ q _. sum-cong n (λ m _. ap (λ t. pick t (array q) (pos 0)) (agrees-above q (v m) x (length ds) r (omega arith)) ∙ pick-both (eqb (pointPosition ds q a) (v m)) (agrees ds less q x (length ds)) (array q)))
+
     -- summing out axis a too is a sum over axis a
     pub total-sum : (array : ℕ → ℤ) (x : ℕ → ℕ) → a < length ds → total ds array less x ≡ sumZ (lengthOf ds a) (λ v. total ds array mask (put x a v))
     unfolding total
-    total-sum array x r =
-        sum-cong (points ds)
-        (λ q h.
-        let whole = pick (agrees ds less q x (length ds)) (array q) (pos 0) in
-        let own : pointPosition ds q a < lengthOf ds a = (unfold pointPosition in position-lt (lengthOf ds) (length ds) 0 q a (unfold points in h) (omega arith) (omega arith)) in
-        sym
-        (sum-cong (lengthOf ds a) (λ v _. ap (λ t. pick t (array q) (pos 0)) (agrees-above q v x (length ds) r (omega arith)) ∙ pick-both (eqb (pointPosition ds q a) v) (agrees ds less q x (length ds)) (array q)) ∙ sum-only (lengthOf ds a) (pointPosition ds q a) (λ v. whole) own)) ∙ sym (sum-swap (lengthOf ds a) (points ds) (λ v q. pick (agrees ds mask q (put x a v) (length ds)) (array q) (pos 0)))
+    total-sum array x r = sym (totals-along array x (lengthOf ds a) (λ m. m) r ∙ sum-cong (points ds) (λ q h. sum-only (lengthOf ds a) (pointPosition ds q a) (λ v. pick (agrees ds less q x (length ds)) (array q) (pos 0)) (own q h)))
+      where
+        own : (q : ℕ) → q < points ds → pointPosition ds q a < lengthOf ds a
+        own q h = unfold pointPosition in position-lt (lengthOf ds) (length ds) 0 q a (unfold points in h) (omega arith) (omega arith)
 
   pub total-cong : (array : ℕ → ℤ) (mask : ℕ) (x x′ : ℕ → ℕ) → ((d : ℕ) → d < length ds → keeps mask d ≡ true → x d ≡ x′ d) → total ds array mask x ≡ total ds array mask x′
   unfolding total
@@ -168,24 +171,30 @@ module _ (a : PlanLists) (sound : Sound a) where
   pub keeps-order : (Y : List ℕ) (d : ℕ) → d < g .axes → keeps (maskOf g Y) (g .order d) ≡ not (has Y d)
   keeps-order Y d h = keeps-place Y (g .order d) (order-below d h) ∙ ap (λ k. not (has Y k)) (ok .rank-order d h)
 
+  -- the axis at place j, and the others
+  apart : (j d : ℕ) → d < length (a .lengths) → (d ≡ g .order j → ⊥) → g .rank d ≡ j → ⊥
+  apart j d h ne e = ne (sym (order-of-rank d h) ∙ ap (g .order) e)
+
+  pub keeps-other : (Y : List ℕ) (j d : ℕ) → d < length (a .lengths) → (d ≡ g .order j → ⊥) → keeps (maskOf g (j ∷ Y)) d ≡ keeps (maskOf g Y) d
+  keeps-other Y j d h ne = keeps-place (j ∷ Y) d h ∙ ap not (has-other j (g .rank d) Y (apart j d h ne)) ∙ sym (keeps-place Y d h)
+
+  put-place : (z : ℕ → ℕ) (j v d : ℕ) → j < g .axes → d < length (a .lengths) → put (λ d. z (g .rank d)) (g .order j) v d ≡ put z j v (g .rank d)
+  put-place z j v d r h =
+      by (eqb d (g .order j))
+      (λ t. let q = eqb-true d (g .order j) t in rw (q, put-same, ok .rank-order j r) (sym (put-same z j v)))
+      (λ t. let ne = eqb-false d (g .order j) t in put-other (λ d. z (g .rank d)) (g .order j) v d ne ∙ sym (put-other z j v (g .rank d) (apart j d h ne)))
+
   module _ (array : ℕ → ℤ) where
+    -- one position put in, by place and by axis
+    pub total-put : (Y : List ℕ) (j : ℕ) (z : ℕ → ℕ) (v : ℕ) → j < g .axes → totalAt a array Y (put z j v) ≡ total (a .lengths) array (maskOf g Y) (put (λ d. z (g .rank d)) (g .order j) v)
+    unfolding totalAt
+    total-put Y j z v r = total-cong (a .lengths) array (maskOf g Y) _ _ (λ d u _. sym (put-place z j v d r u))
+
     -- a set with one place more is the choice with that axis summed out too
     total-more : (Y : List ℕ) (j : ℕ) (z : ℕ → ℕ) → has Y j ≡ false → j < g .axes → totalAt a array (j ∷ Y) z ≡ sumZ (g .len j) (λ v. totalAt a array Y (put z j v))
-    unfolding totalAt
     total-more Y j z out r =
-        total-sum (a .lengths) (maskOf g Y) (maskOf g (j ∷ Y)) (g .order j) (keeps-order Y j r ∙ ap not out) (keeps-order (j ∷ Y) j r ∙ ap not (has-head j Y)) others array (λ d. z (g .rank d)) (order-below j r) ∙ (rw (order-length j r) (sum-cong (g .len j) (λ v _. total-cong (a .lengths) array (maskOf g Y) _ _ (λ d u _. moved v d u))))
-      where
-        apart : (d : ℕ) → d < length (a .lengths) → (d ≡ g .order j → ⊥) → g .rank d ≡ j → ⊥
-        apart d h ne e = ne (sym (order-of-rank d h) ∙ ap (g .order) e)
-
-        others : (d : ℕ) → d < length (a .lengths) → (d ≡ g .order j → ⊥) → keeps (maskOf g (j ∷ Y)) d ≡ keeps (maskOf g Y) d
-        others d h ne = keeps-place (j ∷ Y) d h ∙ ap not (has-other j (g .rank d) Y (apart d h ne)) ∙ sym (keeps-place Y d h)
-
-        moved : (v d : ℕ) → d < length (a .lengths) → put (λ d. z (g .rank d)) (g .order j) v d ≡ put z j v (g .rank d)
-        moved v d h =
-            by (eqb d (g .order j))
-            (λ t. let q = eqb-true d (g .order j) t in rw (q, put-same, ok .rank-order j r) (sym (put-same z j v)))
-            (λ t. let ne = eqb-false d (g .order j) t in put-other (λ d. z (g .rank d)) (g .order j) v d ne ∙ sym (put-other z j v (g .rank d) (apart d h ne)))
+        let whole : totalAt a array (j ∷ Y) z ≡ sumZ (lengthOf (a .lengths) (g .order j)) (λ v. total (a .lengths) array (maskOf g Y) (put (λ d. z (g .rank d)) (g .order j) v)) = (unfold totalAt in total-sum (a .lengths) (maskOf g Y) (maskOf g (j ∷ Y)) (g .order j) (keeps-order Y j r ∙ ap not out) (keeps-order (j ∷ Y) j r ∙ ap not (has-head j Y)) (keeps-other Y j) array (λ d. z (g .rank d)) (order-below j r)) in
+        whole ∙ (rw (order-length j r) (sum-cong (g .len j) (λ v _. sym (total-put Y j z v r))))
 
     pub totals-law : Law g array (totalAt a array)
     totals-law = record { root = root; sum = total-more; alike = alike }
