@@ -2,12 +2,12 @@
 use Prim.Native.Nat.{ℕ, _+_, _-_, _^_, _≤_, _<_}
 use mathlib.Core.Path.{_≡_, sym, _∙_, refl, ap}
 use mathlib.Core.Bool.{Bool, true, false, _||_, not}
-use mathlib.Core.List.{List, [], _∷_, _++_}
+use mathlib.Core.List.{List, [], _∷_, _++_, map}
 use native.Mathlib.Omega.{arith}
 use native.Mathlib.Decide.{decLe}
 use borrow.Author.Tests.{eqb-true, eqb-false, eq-eqb, ltb-false, le-ltb, leb-true, le-leb, not-false}
 use lib.Dec.{eqb, ltb, leb}
-use lib.ListN.{length, getD, take, drop, replicate, length-append, length-drop, length-take, length-replicate, getD-replicate, List·getD-eq-default}
+use lib.ListN.{length-map, length, getD, take, drop, replicate, length-append, length-drop, length-take, length-replicate, getD-replicate, List·getD-eq-default}
 use lib.Seq.{getD-drop, getD-take, getD-append-add, take-take, take-at}
 use Rattle.cube.specs.Limits.{axisLimit, pointLimit, powerLimit, padded}
 use Rattle.cube.specs.Choices.{points, lengthOf}
@@ -199,6 +199,10 @@ module _ (q : Plan) (lengths : length (q .lengths) ≡ 8) (order : length (q .or
       let adds : sums ≡ true = eq-eqb _ _ (ok .sound .sums) in
       let nine : badExponents (listsOf q) ≡ false = bad-exponents q lengths few ∙ (rw (fits, adds)) in
       plan-list q ∙ (rw (three, l .1, l .2, few-boards (q .p) (ok .boards), eight, nine))
+
+-- the same from what a function knows of a plan that it is passed
+pub passed-accepted : (q : Plan) → length (map (λ v. v) (q .lengths)) ≡ 8 → length (map (λ v. v) (q .order)) ≡ 8 → length (map (λ v. v) (q .exponents)) ≡ 8 → planRefusal q ≡ 0 → Accepted q
+passed-accepted q l o k e = accepted q (rw length-map at l) (rw length-map at o) (rw length-map at k) e
 
 -- ---- the planner's own plan
 

@@ -19,7 +19,7 @@ use Rattle.planner.proofs.Orders.{order-below, rank-below, product-orde
 use Rattle.planner.proofs.Demand.{plan-sound}
 use Rattle.planner.proofs.Bounding.{weight-small}
 
-table-cong : {A : Type 0} (m d : ℕ) (f g : ℕ → A) → ((i : ℕ) → d ≤ i → i < d + m → f i ≡ g i) → tableFrom m d f ≡ tableFrom m d g
+pub table-cong : {A : Type 0} (m d : ℕ) (f g : ℕ → A) → ((i : ℕ) → d ≤ i → i < d + m → f i ≡ g i) → tableFrom m d f ≡ tableFrom m d g
 unfolding tableFrom
 table-cong zero d f g h = refl
 table-cong (suc m) d f g h = ap₂ _∷_ (h d (omega arith) (omega arith)) (table-cong m (d + 1) f g (λ i l r. h i (omega arith) (omega arith)))
@@ -36,7 +36,7 @@ module _ (ds : List ℕ) (p : ℕ) (ok : PlanningAccepted ds p) where
   unfolding planOf
   below i h = order-below (planOf ds p) (unfold planOf in sound) i h
 
-  place-below : (a : ℕ) → a < length ds → find a (order ds) < length ds
+  pub place-below : (a : ℕ) → a < length ds → find a (order ds) < length ds
   unfolding planOf
   place-below a h = rank-below (planOf ds p) (unfold planOf in sound) a h
 

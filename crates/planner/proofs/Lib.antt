@@ -23,3 +23,6 @@ pub mod Bounding
 pub mod Finding
 pub mod Arranging
 pub mod Deciding
+pub mod PricingLaws
+pub mod Answering
+pub mod Best

@@ -6,3 +6,4 @@ pub mod Computing
 pub mod Trees
 pub mod Accepted
 pub mod Choosing
+pub mod Pricing

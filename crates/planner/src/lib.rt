@@ -1,4 +1,5 @@
 pub mod checks;
 pub mod planning;
+pub mod pricing;
 pub mod rule;
 pub mod types;

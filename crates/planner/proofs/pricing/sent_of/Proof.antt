@@ -1,0 +1,19 @@
+use mathlib.Core.Path.{refl}
+use borrow.Author.Needs.{needs}
+use Rattle.cube.specs.Tree.{sent}
+use Rattle.planner.proofs.PricingLaws.{shifted, power-small, sent-small}
+use Rattle.planner.proofs.pricing.sent_of.Statement.{statement}
+use Rattle.planner.proofs.pricing.sent_of.Tie as tie
+
+shl-result : tie.Need-shl-result
+shl-result c = search needs
+
+sub-result : tie.Need-sub-result
+sub-result c = rw (shifted (c .args .k) (c .pre)) (power-small (c .args .k) (c .pre) .0)
+
+returns : tie.Need-returns
+unfolding sent
+returns c = rw (shifted (c .args .k) (c .pre)) (refl, sent-small (c .args .k) (c .pre))
+
+pub sent-of-spec : {M : Type 1} → statement M
+sent-of-spec = tie.close (tie.spec shl-result sub-result returns)
