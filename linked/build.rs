@@ -2,7 +2,7 @@
 
 use std::path::Path;
 
-const LIBRARIES: [&str; 1] = ["controller"];
+const LIBRARIES: [&str; 2] = ["controller", "probe"];
 
 fn main() {
     let folder = Path::new(env!("CARGO_MANIFEST_DIR")).join("../target/staticlib");

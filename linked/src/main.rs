@@ -1,13 +1,16 @@
 //! The proved engine through its static libraries, beside the independent engine.
 
 mod plans;
+mod tapes;
 
 use std::env;
 use std::process::ExitCode;
+use std::time::Instant;
 
 const USAGE: &str = "\
 usage: linked plans SEED N      compare planning on every small shape, N random requests and every refusal
-       linked bench             time planning, proved and independent, in one run
+       linked tapes SEED N      compare reading on N made tapes, and on tapes damaged at every byte
+       linked bench             time planning and reading, proved and independent, in one run
 ";
 
 fn main() -> ExitCode {
@@ -17,8 +20,12 @@ fn main() -> ExitCode {
         ["plans", seed, n] => {
             seed.parse().ok().zip(n.parse().ok()).map(|(s, n)| plans::check(s, n))
         }
+        ["tapes", seed, n] => {
+            seed.parse().ok().zip(n.parse().ok()).map(|(s, n)| tapes::check(s, n))
+        }
         ["bench"] => {
             plans::bench();
+            tapes::bench();
             return ExitCode::SUCCESS;
         }
         _ => None,
@@ -49,4 +56,16 @@ impl Count {
             println!("differs: {}", what());
         }
     }
+}
+
+/// The shortest of some rounds, each of many calls.
+pub fn nanoseconds(calls: u32, mut call: impl FnMut()) -> f64 {
+    let round = |call: &mut dyn FnMut()| {
+        let started = Instant::now();
+        for _ in 0..calls {
+            call();
+        }
+        started.elapsed().as_secs_f64() * 1e9 / f64::from(calls)
+    };
+    (0..20).map(|_| round(&mut call)).fold(f64::INFINITY, f64::min)
 }

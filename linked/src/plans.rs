@@ -1,14 +1,13 @@
 //! Planning through the controller's library.
 
 use std::hint::black_box;
-use std::time::Instant;
 
 use compare::judge::Refusal;
 use compare::plan::{planned, Plan};
 use compare::random::Random;
 use compare::{price, search};
 
-use crate::Count;
+use crate::{nanoseconds, Count};
 
 extern "C" {
     fn campaign_plan(
@@ -162,26 +161,13 @@ pub fn bench() {
     {
         let spelled = bytes(&lengths);
         let mut result = [0; 16];
-        let proved = nanoseconds(|| {
+        let proved = nanoseconds(2_000, || {
             black_box(plan(black_box(&spelled), 10, &mut result));
         });
-        let independent = nanoseconds(|| {
+        let independent = nanoseconds(2_000, || {
             black_box(planned(black_box(&lengths), 10)).ok();
         });
         let ratio = proved / independent;
         println!("{:<40}{proved:>9.0} ns{independent:>9.0} ns{ratio:>8.2}", format!("{lengths:?}"));
     }
-}
-
-/// The shortest of some rounds, each of many calls.
-fn nanoseconds(mut call: impl FnMut()) -> f64 {
-    const CALLS: u32 = 2_000;
-    let round = |call: &mut dyn FnMut()| {
-        let started = Instant::now();
-        for _ in 0..CALLS {
-            call();
-        }
-        started.elapsed().as_secs_f64() * 1e9 / f64::from(CALLS)
-    };
-    (0..20).map(|_| round(&mut call)).fold(f64::INFINITY, f64::min)
 }

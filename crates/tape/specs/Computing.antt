@@ -2,8 +2,10 @@
 use Prim.Native.Nat.{ℕ}
 use Rattle.tape.specs.Tapes
 use Rattle.tape.specs.Reading
+use Rattle.tape.specs.Decoding
+use Rattle.tape.specs.Writing
 use Rattle.cube.specs.Computing as cube
 
 unfoldable pub computing : ℕ
-unfolding Tapes.signed32 Tapes.repeated Tapes.point Tapes.command Tapes.pointsThen Tapes.pointsOf Tapes.lengthsThen Tapes.campaignOf Tapes.campaign Reading.tooLong Reading.scanChecks Reading.scanRefusal Reading.scannedAs Reading.scanning Reading.shortSlice Reading.readingChecks Reading.readingRefusal Reading.filledOr Reading.reading cube.computing
+unfolding Tapes.signed32 Tapes.repeated Tapes.point Tapes.command Tapes.pointsThen Tapes.pointsOf Tapes.lengthsThen Tapes.campaignOf Tapes.campaign Reading.tooLong Reading.scanChecks Reading.scanRefusal Reading.scannedAs Reading.scanning Reading.shortSlice Reading.readingChecks Reading.readingRefusal Reading.filledOr Reading.reading Decoding.told Decoding.decoding Decoding.pointsIn Decoding.counted Writing.bytes Writing.axisCommand Writing.boardsCommand Writing.pointCommand Writing.repeatCommand Writing.endCommand Writing.each Writing.headed Writing.written cube.computing
 computing = 0

@@ -1,3 +1,5 @@
 pub mod Tapes
 pub mod Reading
+pub mod Decoding
+pub mod Writing
 pub mod Computing

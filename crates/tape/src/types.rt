@@ -7,3 +7,23 @@ pub struct Scan {
     pub p: u8,
     pub points: u64,
 }
+
+// The command at a position of a tape. The last number of each case is the position after the command.
+pub enum Command {
+    // 41: an axis length.
+    Axis(u16, usize),
+    // 42: p.
+    Boards(u8, usize),
+    // 56 and 52: how often a point stands, and the point.
+    Points(u16, i32, usize),
+    // 45.
+    End(usize),
+    // No command, or one cut short, or a 52 of count 0.
+    Bad,
+}
+
+// How many points the rest of a tape holds, if it keeps the form.
+pub enum Count {
+    Whole(u64),
+    Broken,
+}

@@ -1,0 +1,215 @@
+//! Reading tapes through the probe's library.
+
+use std::hint::black_box;
+
+use compare::judge::Refusal;
+use compare::make;
+use compare::random::Random;
+use compare::spell;
+use compare::tape::{self, Run, Tape};
+
+use crate::{nanoseconds, Count};
+
+extern "C" {
+    fn tape_scan(tape: *const u8, tape_len: usize, out: *mut u64, out_len: usize) -> u8;
+    fn tape_fill(tape: *const u8, tape_len: usize, slice: *mut i32, slice_len: usize) -> u8;
+}
+
+const SCANNED: usize = 11;
+
+fn scan(tape: &[u8], out: &mut [u64]) -> u8 {
+    unsafe { tape_scan(tape.as_ptr(), tape.len(), out.as_mut_ptr(), out.len()) }
+}
+
+fn fill(tape: &[u8], slice: &mut [i32]) -> u8 {
+    unsafe { tape_fill(tape.as_ptr(), tape.len(), slice.as_mut_ptr(), slice.len()) }
+}
+
+/// `n` made tapes; then small lawful tapes cut at every byte, with every byte changed,
+/// and with every two commands swapped.
+pub fn check(seed: u64, n: u64) -> Count {
+    let mut count = Count::default();
+    for index in 0..n {
+        expect(&mut count, &make::made(seed, index).tape);
+    }
+    let mut random = Random::new(seed);
+    for _ in 0..40 {
+        let commands = small(&mut random);
+        damaged(&mut count, &mut random, &commands);
+    }
+    longest(&mut count);
+    count
+}
+
+/// What is due for any bytes, by the scan and by filling slices around the due length.
+fn expect(count: &mut Count, bytes: &[u8]) {
+    let due = tape::read(bytes);
+    scanned(count, bytes, &due);
+    let points = due.as_ref().map_or(0, Tape::point_count);
+    for len in [points.saturating_sub(1), points, points + 3] {
+        // A slice as long as all that a tape can repeat is not lent.
+        if len <= 1 << 22 {
+            filled(count, bytes, &due, len as usize);
+        }
+    }
+    if points > 1 << 22 {
+        filled(count, bytes, &due, 1000);
+    }
+}
+
+fn scanned(count: &mut Count, bytes: &[u8], due: &Result<Tape, Refusal>) {
+    for len in [SCANNED, SCANNED - 1, SCANNED + 1] {
+        let before: Vec<u64> = (0..len as u64).map(|i| 0xa5a5_0000 ^ i).collect();
+        let mut out = before.clone();
+        let answer = scan(bytes, &mut out);
+        let (refusal, written) = match due {
+            Err(Refusal(number)) => (*number, before),
+            Ok(_) if len != SCANNED => (13, before),
+            Ok(tape) => (0, spelled(tape)),
+        };
+        count.note((answer, &out) == (refusal, &written), || {
+            format!("scan of {}: {answer} {out:?}, due {refusal} {written:?}", shown(bytes))
+        });
+    }
+}
+
+fn spelled(tape: &Tape) -> Vec<u64> {
+    let opening = [tape.lengths.len() as u64, u64::from(tape.p), tape.point_count()];
+    let lengths = tape.lengths.iter().copied().chain(std::iter::repeat(0)).take(8);
+    opening.into_iter().chain(lengths).collect()
+}
+
+/// The whole slice is compared, with the cells after the points.
+fn filled(count: &mut Count, bytes: &[u8], due: &Result<Tape, Refusal>, len: usize) {
+    let before: Vec<i32> = (0..len as i32).map(|i| i ^ 0x5a5a_5a5a).collect();
+    let mut slice = before.clone();
+    let answer = fill(bytes, &mut slice);
+    let (refusal, written) = match due {
+        Err(Refusal(number)) => (*number, before),
+        Ok(tape) if tape.point_count() > len as u64 => (11, before),
+        Ok(tape) => {
+            let mut points = tape.points();
+            points.extend_from_slice(&before[points.len()..]);
+            (0, points)
+        }
+    };
+    count.note(answer == refusal && slice == written, || {
+        let part = slice.iter().zip(&written).position(|(a, b)| a != b);
+        format!(
+            "fill of {} cells from {}: {answer}, due {refusal}; first cell {part:?}",
+            len,
+            shown(bytes)
+        )
+    });
+}
+
+fn shown(bytes: &[u8]) -> String {
+    format!("{} bytes {:02x?}", bytes.len(), &bytes[..bytes.len().min(40)])
+}
+
+fn repeat(count: u16, point: i32) -> Vec<u8> {
+    spell::repeat(Run { count, point })
+}
+
+/// A lawful tape of all commands, the points few.
+fn small(random: &mut Random) -> Vec<Vec<u8>> {
+    let mut commands = Vec::new();
+    for _ in 0..random.below(11) {
+        commands.push(spell::axis(random.next() as u16));
+    }
+    commands.push(spell::boards(random.next() as u8));
+    for _ in 0..random.below(9) {
+        let point = random.next() as i32;
+        commands.push(match random.one_in(2) {
+            true => spell::point(point),
+            false => repeat(random.between(1, 300) as u16, point),
+        });
+    }
+    commands.push(spell::end());
+    commands
+}
+
+fn damaged(count: &mut Count, random: &mut Random, commands: &[Vec<u8>]) {
+    let whole = commands.concat();
+    for at in 0..=whole.len() {
+        expect(count, &whole[..at]);
+    }
+    for at in 0..whole.len() {
+        let letters = [tape::AXIS, tape::BOARDS, tape::END, tape::REPEAT, tape::POINT, 0, 0xff];
+        for byte in letters.into_iter().chain([random.next() as u8]) {
+            let mut changed = whole.clone();
+            changed[at] = byte;
+            expect(count, &changed);
+        }
+    }
+    for i in 0..commands.len() {
+        for j in 0..i {
+            let mut swapped = commands.to_vec();
+            swapped.swap(i, j);
+            expect(count, &swapped.concat());
+        }
+    }
+}
+
+/// Tapes of 65,535 to 65,537 bytes, of each kind of command.
+fn longest(count: &mut Count) {
+    for len in tape::LONGEST_TAPE - 1..=tape::LONGEST_TAPE + 1 {
+        expect(count, &long(len, &spell::point(-5)));
+        expect(count, &long(len, &repeat(65_535, 7)));
+        expect(count, &long(len, &repeat(3, i32::MIN)));
+        expect(count, &vec![tape::AXIS; len]);
+    }
+}
+
+/// A tape of one command again and again, brought to a length by 41s at its start.
+fn long(len: usize, command: &[u8]) -> Vec<u8> {
+    let mut rest = len - 3;
+    let mut axes = 0;
+    while rest % command.len() != 0 {
+        axes += 1;
+        rest -= 3;
+    }
+    let mut bytes = spell::axis(9).repeat(axes);
+    bytes.extend(spell::boards(4));
+    bytes.extend(command.repeat(rest / command.len()));
+    bytes.extend(spell::end());
+    bytes
+}
+
+/// Nanoseconds to scan and fill, beside the independent reader with its points.
+pub fn bench() {
+    println!("{:<40}{:>12}{:>12}{:>8}", "scan and fill", "proved", "compare", "ratio");
+    let repeats: Vec<u8> =
+        [spell::axis(8_192), spell::boards(0), repeat(1_024, -77).repeat(8), spell::end()].concat();
+    let tapes = [
+        ("65,536 bytes of 56s", long(tape::LONGEST_TAPE, &spell::point(-123_456))),
+        ("52s that fill 8,192 cells", repeats),
+        ("a 52 for each of 8,192 cells", each()),
+    ];
+    for (name, bytes) in tapes {
+        let points = tape::read(&bytes).expect("a lawful tape").point_count();
+        let mut slice = vec![0; points as usize];
+        let mut out = [0; SCANNED];
+        let proved = nanoseconds(200, || {
+            black_box(scan(black_box(&bytes), &mut out));
+            black_box(fill(black_box(&bytes), &mut slice));
+        });
+        let independent = nanoseconds(200, || {
+            let read = tape::read(black_box(&bytes)).expect("a lawful tape");
+            black_box(read.point_count());
+            black_box(read.points());
+        });
+        let ratio = proved / independent;
+        println!("{name:<40}{proved:>9.0} ns{independent:>9.0} ns{ratio:>8.2}");
+    }
+}
+
+/// A 52 for each of 8,192 cells.
+fn each() -> Vec<u8> {
+    let mut bytes = [spell::axis(8_192), spell::boards(0)].concat();
+    for i in 0..8_192 {
+        bytes.extend(repeat(1, i));
+    }
+    bytes.extend(spell::end());
+    bytes
+}
