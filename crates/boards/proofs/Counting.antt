@@ -70,30 +70,30 @@ module _ (g : Grid) (ok : Lawful g) where
       one b true = each-length (g .parts j - 1) _ ∙ sumN-same 1 (g .parts j - 1)
       one b false = sym (mul-zero (g .parts j - 1))
 
-  Taken : List ℕ → ℕ
+  unfoldable pub Taken : List ℕ → ℕ
   Taken Z = (g .parts (lastOf Z) - 1) * product (kept Z (g .parts)) (g .axes) 0
 
   visit-length : (Y : List ℕ) (m : ℕ) (inner : List TreeStep) → length (visit Y (suc m) inner) ≡ suc (suc (length inner))
   visit-length Y m inner = ap suc (length-append inner (finish Y ∷ []) ∙ (let z : length inner + 1 ≡ suc (length inner) = omega arith in z))
 
-  walk-parts : (m d : ℕ) (Y : List ℕ) → length (walk g (suc m) d Y) ≡ length (walk g m (d + 1) Y) + (length (transfers g (d ∷ Y) (boards g)) + length (visit (d ∷ Y) m (walk g m (d + 1) (d ∷ Y))))
+  pub walk-parts : (m d : ℕ) (Y : List ℕ) → length (walk g (suc m) d Y) ≡ length (walk g m (d + 1) Y) + (length (transfers g (d ∷ Y) (boards g)) + length (visit (d ∷ Y) m (walk g m (d + 1) (d ∷ Y))))
   unfolding walk
   walk-parts m d Y = length-append (walk g m (d + 1) Y) _ ∙ ap (λ n. length (walk g m (d + 1) Y) + n) (length-append (transfers g (d ∷ Y) (boards g)) _)
 
-  sum-parts : (m d : ℕ) (Y : List ℕ) → overSetsFrom Taken (suc m) d Y ≡ overSetsFrom Taken m (d + 1) Y + (Taken (d ∷ Y) + overSetsFrom Taken m (d + 1) (d ∷ Y))
+  pub sum-parts : (m d : ℕ) (Y : List ℕ) → overSetsFrom Taken (suc m) d Y ≡ overSetsFrom Taken m (d + 1) Y + (Taken (d ∷ Y) + overSetsFrom Taken m (d + 1) (d ∷ Y))
   unfolding overSetsFrom
   sum-parts m d Y = refl
 
-  taken-length : (m d : ℕ) (Y : List ℕ) → d + suc m ≡ g .axes → Down Y d → length (transfers g (d ∷ Y) (boards g)) ≡ Taken (d ∷ Y)
+  pub taken-length : (m d : ℕ) (Y : List ℕ) → d + suc m ≡ g .axes → Down Y d → length (transfers g (d ∷ Y) (boards g)) ≡ Taken (d ∷ Y)
   unfolding Taken
   taken-length m d Y e h = transfers-length Y d (omega arith, h)
 
   -- with no child more there is a finish alone
-  last-walk : (d : ℕ) (Y : List ℕ) → (length (walk g 0 d Y) ≡ 0) × (length (visit Y 0 (walk g 0 d Y)) ≡ 1) × (overSetsFrom Taken 0 d Y ≡ 0)
+  pub last-walk : (d : ℕ) (Y : List ℕ) → (length (walk g 0 d Y) ≡ 0) × (length (visit Y 0 (walk g 0 d Y)) ≡ 1) × (overSetsFrom Taken 0 d Y ≡ 0)
   unfolding walk overSetsFrom
   last-walk d Y = (refl, refl, refl)
 
-  walk-length : (m d : ℕ) (Y : List ℕ) → d + suc m ≡ g .axes → Down Y d → length (walk g (suc m) d Y) + 2 ≡ overSetsFrom Taken (suc m) d Y + (2 ^ suc m + 2 ^ m)
+  pub walk-length : (m d : ℕ) (Y : List ℕ) → d + suc m ≡ g .axes → Down Y d → length (walk g (suc m) d Y) + 2 ≡ overSetsFrom Taken (suc m) d Y + (2 ^ suc m + 2 ^ m)
   walk-length zero d Y e h =
       let t = taken-length 0 d Y e h in
       let r = walk-parts 0 d Y in

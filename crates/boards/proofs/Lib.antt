@@ -6,6 +6,7 @@ pub mod Finishing
 pub mod Masks
 pub mod Moving
 pub mod Counting
+pub mod Tallies
 pub mod Listed
 pub mod Cases
 pub mod Begun
