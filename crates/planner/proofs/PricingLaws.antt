@@ -79,11 +79,11 @@ module _ (L E : List ℕ) (n i : ℕ) (h : i < n) where
     added-both e f = rw (e, f) (sym (added-next c q))
 
 module _ (L E : List ℕ) (n i : ℕ) (h : i ≡ n) where
-  pub moved-end : (k c : ℕ) → movedFrom L E (n - i) i k c ≡ c * sent k
+  pub moved-end : (k c r : ℕ) → r ≡ sent k → c * r ≡ movedFrom L E (n - i) i k c
   unfolding movedFrom
-  moved-end k c = let q : n - i ≡ 0 = omega arith in rw q
+  moved-end k c r e = let q : n - i ≡ 0 = omega arith in rw (q, e)
 
-  pub added-end : (c q : ℕ) → addedFrom L (n - i) i c q ≡ q
+  pub added-end : (c q : ℕ) → q ≡ addedFrom L (n - i) i c q
   unfolding addedFrom
   added-end c q = let z : n - i ≡ 0 = omega arith in rw z
 
@@ -138,7 +138,7 @@ module _ {L E : List ℕ} {n i k c q : ℕ} (ok : Undecided L E n i k c q) where
   pub cells-small : c ≤ pointLimit
   cells-small = small-factor L E n (ok .axes) c i (ok .cells)
 
-  pub moved-small : movedFrom L E (n - i) i k c ≤ 4398046511104
+  pub moved-small : movedFrom L E (n - i) i k c ≤ 2 ^ 42
   moved-small =
       let w = ok .within in
       let f = ok .axes .few in
@@ -146,7 +146,7 @@ module _ {L E : List ℕ} {n i k c q : ℕ} (ok : Undecided L E n i k c q) where
       let p : 2 ^ (n - i) ≤ 2 ^ 8 = pow-mono {j = 8} (omega arith) in
       omega arith
 
-  pub added-small : addedFrom L (n - i) i c q ≤ 4398046511104
+  pub added-small : addedFrom L (n - i) i c q ≤ 2 ^ 42
   added-small =
       let w = ok .within in
       let f = ok .axes .few in
@@ -167,15 +167,19 @@ module _ {L E : List ℕ} {n i k c q : ℕ} (ok : Undecided L E n i k c q) where
     pub parent-small : q * lengthOf L i ≤ pointLimit
     parent-small = small-factor L E n (ok .axes) (q * lengthOf L i) (i + 1) parent-next
 
-    pub kept-undecided : Undecided L E n (i + 1) k (c * lengthOf L i) (q * lengthOf L i)
-    kept-undecided = record { axes = ok .axes; within = omega arith; last = ok .last; cells = cells-next; parent = parent-next }
+    pub cells-le : c ≤ c * lengthOf L i
+    cells-le = let q = mul-le-mul-left c (ok .axes .some i h) in let p = mul-one c in omega arith
 
-    pub summed-undecided : Undecided L E n (i + 1) (getD E i 0) c (c * lengthOf L i)
-    summed-undecided =
-        let s = shrink c (lengthOf L i) (product (lengthOf L) (n - (i + 1)) (i + 1)) (ok .axes .some i h) in
-        let a = mul-assoc c (lengthOf L i) (product (lengthOf L) (n - (i + 1)) (i + 1)) in
-        let m = cells-next in
-        record { axes = ok .axes; within = omega arith; last = ok .axes .cut i h; cells = omega arith; parent = m }
+    -- the axis kept: cells and parent grow by at most its length; and summed: the cells so far are the parent's
+    pub kept-undecided : (k′ c′ q′ : ℕ) → k′ ≤ powerLimit → c′ ≤ c * lengthOf L i → q′ ≤ q * lengthOf L i → Undecided L E n (i + 1) k′ c′ q′
+    kept-undecided k′ c′ q′ a b d =
+        let r = product (lengthOf L) (n - (i + 1)) (i + 1) in
+        record { axes = ok .axes; within = omega arith; last = a; cells = le-trans (mul-le-mul-right r b) cells-next; parent = le-trans (mul-le-mul-right r d) parent-next }
+
+    pub summed-undecided : (k′ c′ q′ : ℕ) → k′ ≤ powerLimit → c′ ≤ c * lengthOf L i → q′ ≤ c * lengthOf L i → Undecided L E n (i + 1) k′ c′ q′
+    summed-undecided k′ c′ q′ a b d =
+        let r = product (lengthOf L) (n - (i + 1)) (i + 1) in
+        record { axes = ok .axes; within = omega arith; last = a; cells = le-trans (mul-le-mul-right r b) cells-next; parent = le-trans (mul-le-mul-right r d) cells-next }
 
 -- ---- the sums over every set of summed axes
 

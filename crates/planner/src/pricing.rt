@@ -40,7 +40,7 @@ fn choices_from(
     parent: u64,
 ) -> Sums
     requires { ⌜ Undecided lengths exponents n i k cells parent ⌝ }
-    ensures { λ r. ⌜ (r .moved ≡ movedFrom lengths exponents (n - i) i k cells) × (r .added ≡ addedFrom lengths (n - i) i cells parent) ⌝ }
+    ensures { λ r. ⌜ (r .moved ≡ movedFrom lengths exponents (n - i) i k cells) × (r .added ≡ addedFrom lengths (n - i) i cells parent) × (r .moved ≤ 2 ^ 42) × (r .added ≤ 2 ^ 42) ⌝ }
 {
     if i == n {
         let sent = sent_of(k);

@@ -1,11 +1,14 @@
 -- Small tapes, scanned and read: the form, its operands, and every way to depart from it.
 use Prim.Native.Nat.{ℕ}
 use mathlib.Core.Path.{_≡_, refl}
-use mathlib.Core.List.{List, [], _∷_, _++_}
-use lib.ListN.{length, replicate}
-use lib.IntN.{ℤ, pos, negsuc}
+use mathlib.Core.List.{List, [], _∷_}
+use lib.ListN.{replicate}
+use lib.IntN.{pos, negsuc}
 use Rattle.tape.specs.declared.types.Scan.{Scan}
+use Rattle.tape.specs.declared.types.Command.the-variants.{Axis, Boards, Points, End, Bad}
 use Rattle.tape.specs.Computing.{computing}
+use Rattle.tape.specs.Decoding.{decoding}
+use Rattle.tape.specs.Writing.{written}
 use Rattle.tape.specs.Reading.{scanRefusal, scanning, readingRefusal, reading}
 
 abbrev scan : ℕ → List ℕ → ℕ → ℕ → Scan
@@ -19,6 +22,22 @@ whole =
 scans : scanning whole ≡ scan 2 (258 ∷ 3 ∷ 0 ∷ 0 ∷ 0 ∷ 0 ∷ 0 ∷ 0 ∷ []) 9 6
 unfolding computing whole
 scans = refl
+
+-- the commands of that tape by their positions; past its end, and inside an operand, there is none
+decodes : (decoding whole 0 ≡ Axis 258 3)
+    × (decoding whole 6 ≡ Boards 9 8)
+    × (decoding whole 8 ≡ Points 1 (negsuc 1) 13)
+    × (decoding whole 13 ≡ Points 3 (pos 5) 20)
+    × (decoding whole 30 ≡ End 31)
+    × (decoding whole 31 ≡ Bad)
+    × (decoding whole 1 ≡ Bad)
+unfolding computing whole
+decodes = (refl, refl, refl, refl, refl, refl, refl)
+
+-- the paper's tape
+writes : written (2 ∷ 3 ∷ []) 1 (pos 1 ∷ negsuc 1 ∷ pos 3 ∷ pos 4 ∷ pos 5 ∷ negsuc 5 ∷ []) ≡ 0x41 ∷ 2 ∷ 0 ∷ 0x41 ∷ 3 ∷ 0 ∷ 0x42 ∷ 1 ∷ 0x56 ∷ 1 ∷ 0 ∷ 0 ∷ 0 ∷ 0x56 ∷ 254 ∷ 255 ∷ 255 ∷ 255 ∷ 0x56 ∷ 3 ∷ 0 ∷ 0 ∷ 0 ∷ 0x56 ∷ 4 ∷ 0 ∷ 0 ∷ 0 ∷ 0x56 ∷ 5 ∷ 0 ∷ 0 ∷ 0 ∷ 0x56 ∷ 250 ∷ 255 ∷ 255 ∷ 255 ∷ 0x45 ∷ []
+unfolding computing
+writes = refl
 
 -- a slice of eight cells: the last two are left as they were; one of six is filled; one of five is refused and left
 reads : (reading whole (replicate 8 (pos 77)) ≡ (negsuc 1 ∷ pos 5 ∷ pos 5 ∷ pos 5 ∷ pos 2147483647 ∷ negsuc 2147483647 ∷ pos 77 ∷ pos 77 ∷ []))

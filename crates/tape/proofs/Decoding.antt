@@ -39,7 +39,7 @@ pub data Follows (l : List ℕ) : Tapes.Command → Type 0 where
   past-boards : {p : ℕ} {r : List ℕ} → Suffix l r → Follows l (boards p r)
   past-points : {n : ℕ} {v : ℤ} {r : List ℕ} → Suffix l r → Follows l (points n v r)
   past-end : {r : List ℕ} → Suffix l r → Follows l (end r)
-  none : Follows l bad
+  no-rest : Follows l bad
 
 either : {l : List ℕ} {a b : Tapes.Command} (t : Bool) → Follows l a → Follows l b → Follows l (pick t a b)
 either true p q = p
@@ -47,12 +47,12 @@ either false p q = q
 
 after-one : {l : List ℕ} (r : List ℕ) (k : ℕ → List ℕ → Tapes.Command) → Suffix l r
     → ((a : ℕ) (s : List ℕ) → Suffix l s → Follows l (k a s)) → Follows l (one r k)
-after-one [] k p q = none
+after-one [] k p q = no-rest
 after-one (a ∷ s) k p q = q a s (tail p)
 
 after-two : {l : List ℕ} (r : List ℕ) (k : ℕ → ℕ → List ℕ → Tapes.Command) → Suffix l r
     → ((a b : ℕ) (s : List ℕ) → Suffix l s → Follows l (k a b s)) → Follows l (two r k)
-after-two [] k p q = none
+after-two [] k p q = no-rest
 after-two (a ∷ r) k p q = after-one r (k a) (tail p) (λ b s. q a b s)
 
 after-four : {l : List ℕ} (r : List ℕ) (k : ℕ → ℕ → ℕ → ℕ → List ℕ → Tapes.Command) → Suffix l r
@@ -61,19 +61,19 @@ after-four r k p q = after-two r _ p (λ a b s h. after-two s _ h (λ c d t. q a
 
 after-repeated : {l : List ℕ} (n : ℕ) (v : ℤ) (r : List ℕ) → Suffix l r → Follows l (repeated n v r)
 unfolding repeated
-after-repeated zero v r p = none
+after-repeated zero v r p = no-rest
 after-repeated (suc n) v r p = past-points p
 
 pub follows : (l : List ℕ) → Follows l (command l)
 unfolding command
-follows [] = none
+follows [] = no-rest
 follows (c ∷ r) =
     let p : Suffix (c ∷ r) r = record { k = 1; some = omega arith; within = omega arith; is = refl } in
     either (eqb c 0x41) (after-two r _ p (λ a b s h. past-axis h))
     (either (eqb c 0x42) (after-one r _ p (λ a s h. past-boards h))
     (either (eqb c 0x56) (after-four r _ p (λ a b d e s h. past-points h))
     (either (eqb c 0x52) (after-two r _ p (λ a b s h. after-four s _ h (λ d e f g t i. after-repeated _ _ t i)))
-    (either (eqb c 0x45) (past-end p) none))))
+    (either (eqb c 0x45) (past-end p) no-rest))))
 
 -- ---- decoding says what the command is, and where the bytes after it begin
 
@@ -113,7 +113,7 @@ means tape at = go (command (drop at tape)) (follows (drop at tape))
     go (boards q r) (past-boards p) = ap (boards q) (rest-at tape at p)
     go (points n v r) (past-points p) = ap (points n v) (rest-at tape at p)
     go (end r) (past-end p) = ap end (rest-at tape at p)
-    go bad none = refl
+    go bad no-rest = refl
 
 moves : (tape : List ℕ) (at : ℕ) → Moves at (length tape) (decoding tape at)
 unfolding decoding told
@@ -127,7 +127,7 @@ moves tape at = go (command (drop at tape)) (follows (drop at tape))
     go (boards q r) (past-boards p) = after p
     go (points n v r) (past-points p) = after p
     go (end r) (past-end p) = after p
-    go bad none = tt
+    go bad no-rest = tt
 
 -- the command at a position, from the answer
 pub next : (tape : List ℕ) (at : ℕ) {c : Command} → c ≡ decoding tape at → command (drop at tape) ≡ meant tape c

@@ -1,8 +1,8 @@
 -- Laws of the stores: a slice with the points stored so far, and what is left of the tape.
-use Prim.Native.Nat.{ℕ, zero, suc, _+_, _-_, _≤_, _<_}
-use mathlib.Core.Path.{_≡_, refl, sym, ap, _∙_}
+use Prim.Native.Nat.{ℕ, zero, suc, _+_, _≤_}
+use mathlib.Core.Path.{_≡_, refl, ap, _∙_}
 use mathlib.Core.Logic.{⊎-elim}
-use mathlib.Core.Bool.{Bool, true, false}
+use mathlib.Core.Bool.{false}
 use mathlib.Core.Option.{Option, none, some}
 use mathlib.Core.List.{List, [], _∷_, _++_}
 use native.Mathlib.Omega.{arith}
@@ -20,7 +20,7 @@ use Rattle.tape.specs.Decoding.{decoding}
 use Rattle.tape.specs.Reading.{isNone, orEmpty, filledOr}
 use Rattle.tape.proofs.types.Command as told
 use Rattle.tape.proofs.Decoding.{Follows, past-axis, past-boards, past-points, follows, next}
-use Rattle.tape.proofs.Forms.{shorter}
+use Rattle.tape.proofs.Forms.{impossible, shorter}
 
 -- ---- stores
 
@@ -88,9 +88,6 @@ passed-next l = passed-fuel (length l) (suc (length l)) l (omega arith) (omega a
     go bad p = refl
 
 -- where the form is kept they are the campaign's points
-
-impossible : {A : Type 0} → _≡_ {A = ℕ} 0 1 → A
-impossible e = absurd (omega arith)
 
 kept-points : (f : ℕ) (l : List ℕ) (v : List ℤ) → pointsOf f l ≡ some v → passedOf f l ≡ v
 unfolding pointsOf pointsThen passedOf

@@ -1,14 +1,17 @@
 -- Laws of the tape's form: what bytes hold is told by their first command and what follows it, whatever the fuel.
-use Prim.Native.Nat.{ℕ, zero, suc, _+_, _-_, _≤_, _<_}
-use mathlib.Core.Path.{_≡_, refl, sym, ap, _∙_}
+use Prim.Native.Nat.{ℕ, zero, suc, _-_, _≤_}
+use mathlib.Core.Path.{_≡_, refl, ap, _∙_}
 use mathlib.Core.Option.{Option, none, some}
-use mathlib.Core.List.{List, [], _∷_, _++_}
+use mathlib.Core.List.{List, [], _∷_}
 use native.Mathlib.Omega.{arith}
-use lib.ListN.{length, replicate, length-drop}
-use lib.IntN.{ℤ}
+use lib.ListN.{length, length-drop}
 use Rattle.tape.specs.Tapes.{Command, axis, boards, points, end, bad, command, Campaign, withPoints, pointsThen, pointsOf, withLength, withBoards, lengthsThen, campaignOf, campaign}
 use Rattle.tape.specs.Decoding.{pointsIn}
-use Rattle.tape.proofs.Decoding.{Suffix, Follows, past-axis, past-boards, past-points, past-end, none as no-rest, follows}
+use Rattle.tape.proofs.Decoding.{Suffix, Follows, past-axis, past-boards, past-points, follows}
+
+-- from equations that cannot hold together, as `impossible (cc)`
+pub impossible : {A : Type 0} → _≡_ {A = ℕ} 0 1 → A
+impossible e = absurd (omega arith)
 
 -- what follows a command is shorter
 pub shorter : {l r : List ℕ} → Suffix l r → suc (length r) ≤ length l

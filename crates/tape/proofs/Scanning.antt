@@ -1,5 +1,5 @@
 -- Laws of the scan's loops: what is left of a tape tells the whole.
-use Prim.Native.Nat.{ℕ, zero, suc, _+_, _-_, _≤_, _<_}
+use Prim.Native.Nat.{ℕ, zero, suc, _+_, _≤_, _<_}
 use mathlib.Core.Path.{_≡_, refl, sym, ap, _∙_}
 use mathlib.Core.Logic.{⊎-elim}
 use mathlib.Core.Option.{Option, none, some}
@@ -9,27 +9,25 @@ use native.Mathlib.Numerals.{add-one}
 use native.Mathlib.Nat.{zero-add, add-zero}
 use borrow.Author.Tests.{lt-ltb, le-ltb}
 use lib.ListN.{length, take, drop, set, replicate, length-append, length-replicate, drop-of-length-le}
-use lib.Seq.{drop-cons, sets, set-out, length-take-le}
+use lib.Seq.{drop-cons, sets, set-out}
 use lib.IntN.{ℤ}
 use types.Run.{OneOf}
 use denote.Enum.Declared.{tagOf}
 use Rattle.cube.specs.Boxes.{pick}
 use Rattle.cube.specs.Checks.{first}
 use Rattle.cube.specs.Limits.{tapeLimit, axisLimit, padded}
+use Rattle.cube.proofs.Slots.{padded-length}
 use Rattle.tape.specs.declared.types.Command.{Command}
 use Rattle.tape.specs.declared.types.Command.the-variants.{Axis, Boards, Points, End, Bad}
 use Rattle.tape.specs.declared.types.Count.{Count}
 use Rattle.tape.specs.declared.types.Count.the-variants.{Whole, Broken}
 use Rattle.tape.specs.declared.types.Scan.{Scan}
-use Rattle.tape.specs.Tapes.{points, end, command, Campaign, campaign, withPoints, withLength, withBoards, pointsThen}
+use Rattle.tape.specs.Tapes.{points, Campaign, campaign, withPoints, withLength, withBoards, pointsThen}
 use Rattle.tape.specs.Decoding.{decoding, pointsIn, counted}
 use Rattle.tape.specs.Reading.{tooLong, isNone, orEmpty, scanChecks, scanRefusal, scannedAs, scanning}
 use Rattle.tape.proofs.types.Command as told
-use Rattle.tape.proofs.Decoding.{next, meant}
-use Rattle.tape.proofs.Forms.{points-next, campaign-next}
-
-impossible : {A : Type 0} → _≡_ {A = ℕ} 0 1 → A
-impossible e = absurd (omega arith)
+use Rattle.tape.proofs.Decoding.{next}
+use Rattle.tape.proofs.Forms.{impossible, points-next, campaign-next}
 
 -- ---- counting
 
@@ -153,14 +151,9 @@ module _ (tape : List ℕ) where
 
 -- a scan has a slot for each axis that there may be
 pub slots-of : (tape : List ℕ) → length (scanning tape .lengths) ≡ axisLimit
-unfolding scanning scannedAs padded
+unfolding scanning scannedAs
 slots-of tape = go (scanRefusal tape) (orEmpty (campaign tape))
   where
-    all : (l : List ℕ) → length (take axisLimit (l ++ replicate axisLimit 0)) ≡ axisLimit
-    all l =
-        let n = length-append l (replicate axisLimit 0) in
-        length-take-le axisLimit (l ++ replicate axisLimit 0) (omega (arith, length-replicate {A = ℕ} axisLimit 0))
-
     go : (n : ℕ) (c : Campaign) → length (scannedAs n c .lengths) ≡ axisLimit
-    go zero c = all (c .lengths)
-    go (suc n) c = refl
+    go zero c = padded-length (c .lengths)
+    go (suc n) c = padded-length []

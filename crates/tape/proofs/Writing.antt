@@ -1,16 +1,16 @@
 -- What is written is read: the tape written for lengths, p and points holds them, and a 52 of count n means what n 56s mean.
-use Prim.Native.Nat.{ℕ, zero, suc, _+_, _*_, _/_, _%_, _^_, _≤_, _<_}
-use mathlib.Core.Path.{_≡_, refl, sym, ap, _∙_}
+use Prim.Native.Nat.{ℕ, zero, suc, _+_, _*_, _/_, _%_, _^_, _<_}
+use mathlib.Core.Path.{_≡_, refl, ap, _∙_}
 use mathlib.Core.Option.{Option, none, some}
 use mathlib.Core.List.{List, [], _∷_, _++_, append-assoc, append-nil}
 use native.Mathlib.Omega.{arith}
-use lib.ListN.{length, replicate}
+use lib.ListN.{replicate}
 use lib.IntN.{ℤ}
 use mir.Syntax.{w32}
 use mir.Val.{SFits, ofZ, toZ}
 use mir.Facts.{toZ-ofZ, fits-ofZ}
 use Rattle.cube.specs.Bytes.{little}
-use Rattle.tape.specs.Tapes.{Command, axis, boards, points, end, signed32, point, repeated, command, Campaign, campaign, withPoints, withLength, withBoards, pointsThen}
+use Rattle.tape.specs.Tapes.{axis, boards, points, end, signed32, point, repeated, command, Campaign, campaign, withPoints, withLength, withBoards, pointsThen}
 use Rattle.tape.specs.Decoding.{pointsIn}
 use Rattle.tape.specs.Writing.{bytes, axisCommand, boardsCommand, pointCommand, repeatCommand, endCommand, each, headed, written, Every}
 use Rattle.tape.proofs.Forms.{points-next, campaign-next}

@@ -8,12 +8,14 @@ ghost use Rattle.cube.specs.Bytes.{little};
 ghost use Rattle.tape.specs.Tapes.{signed32, point};
 ghost use Rattle.tape.specs.Decoding.{decoding};
 
+// A byte in 16 bits.
 fn wide16(b: u8) -> u16
     ensures { λ r. ⌜ (r ≡ b) × (r < 256) ⌝ }
 {
     b as u16
 }
 
+// A byte in 32 bits.
 fn wide32(b: u8) -> u32
     ensures { λ r. ⌜ (r ≡ b) × (r < 256) ⌝ }
 {

@@ -1,14 +1,14 @@
+use native.Mathlib.Omega.{arith}
 use mathlib.Core.Path.{sym, _∙_}
-use borrow.Author.Needs.{needs}
 use Rattle.planner.proofs.Judging.{bad-order}
 use Rattle.planner.proofs.checks.bad_order.Statement.{statement}
 use Rattle.planner.proofs.checks.bad_order.Tie as tie
 
 names-each-requires : tie.Need-names-each-requires
-names-each-requires c κs = search needs
+names-each-requires c κs = omega arith
 
 slots-used-requires : tie.Need-slots-used-requires
-slots-used-requires c κs = search needs
+slots-used-requires c κs = omega arith
 
 returns : tie.Need-returns
 returns c = let s = c .before .before .before .before in rw (bad-order (s .args .plan), sym (c .before .before .names-each .ensures) ∙ c .before .if1 .taken) (c .slots-used .ensures)

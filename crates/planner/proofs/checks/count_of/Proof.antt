@@ -2,7 +2,6 @@ use Prim.Native.Nat.{_+_, _-_, _≤_}
 use mathlib.Core.Path.{_≡_}
 use mathlib.Core.Logic.{⊎-elim}
 use native.Mathlib.Omega.{arith}
-use borrow.Author.Needs.{needs}
 use lib.ListN.{take, drop}
 use Rattle.planner.specs.Plans.{count}
 use Rattle.planner.proofs.Judging.{count-hit, count-miss, count-end}
@@ -19,19 +18,19 @@ loop-holds : tie.Need-loop-holds Inv-loop μ-loop
 loop-holds c = (omega arith, omega arith, omega arith)
 
 cast-if1 : tie.Need-cast-if1 Inv-loop μ-loop
-cast-if1 c = search needs
+cast-if1 c = omega arith
 
 array-read-if1 : tie.Need-array-read-if1 Inv-loop μ-loop
-array-read-if1 c = search needs
+array-read-if1 c = omega arith
 
 add-times : tie.Need-add-times Inv-loop μ-loop
-add-times c = search needs
+add-times c = omega arith
 
 add-d : tie.Need-add-d Inv-loop μ-loop
-add-d c = search needs
+add-d c = omega arith
 
 loop-less : tie.Need-loop-less Inv-loop μ-loop
-loop-less c = search needs
+loop-less c = omega arith
 
 loop-again : tie.Need-loop-again Inv-loop μ-loop
 loop-again c = let s = c .before .before .before in let i = c .before .before .loop .inv in let d = c .before .before .loop .d in let h = c .before .loop-test .taken in ⊎-elim (λ w. let q = count-hit (s .args .t1) (s .args .axes) (s .good .0 .1 .0 .1) (s .pre) (s .args .axis) d h (w .0 .taken) in (omega arith, omega arith, omega arith)) (λ w. let q = count-miss (s .args .t1) (s .args .axes) (s .good .0 .1 .0 .1) (s .pre) (s .args .axis) d h (w .0 .left) in (omega arith, omega arith, omega arith)) (c .if1 .came)

@@ -1,7 +1,6 @@
 use Prim.Native.Nat.{_^_, _≤_, _<_}
 use mathlib.Core.Path.{sym}
 use native.Mathlib.Omega.{arith}
-use borrow.Author.Needs.{needs}
 use lib.ListN.{length}
 use native.Mathlib.Nat.{one-mul, mod-eq-of-lt}
 use lib.Pow.{pow-mono, pow-lt}
@@ -13,7 +12,7 @@ returns : tie.Need-returns
 returns c = let s = c .before in let q : 2 ^ 32 ≤ 2 ^ s .args .k = pow-mono (c .if1 .taken) in sym (lt-leb (2 ^ s .args .k) (s .args .length) (omega (arith, s .fits .length .fits)))
 
 shl-result : tie.Need-shl-result
-shl-result c = search needs
+shl-result c = omega arith
 
 returns-2 : tie.Need-returns-2
 returns-2 c = let s = c .before in let q : 2 ^ s .args .k < 2 ^ 64 = pow-lt {j = 64} (omega (arith, c .if1 .left)) in rw (one-mul, mod-eq-of-lt q)

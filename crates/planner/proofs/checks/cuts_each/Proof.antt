@@ -3,7 +3,6 @@ use Prim.Native.Nat.{_-_, _^_, _≤_}
 use mathlib.Core.Path.{_≡_, refl, sym, _∙_}
 use mathlib.Core.Bool.{true}
 use native.Mathlib.Omega.{arith}
-use borrow.Author.Needs.{needs}
 use lib.ListN.{getD, take}
 use lib.Dec.{leb}
 use Rattle.cube.specs.Choices.{lengthOf}
@@ -23,28 +22,28 @@ unfolding all
 loop-holds c = (omega arith, refl)
 
 cast-i : tie.Need-cast-i Inv-loop μ-loop
-cast-i c = search needs
+cast-i c = omega arith
 
 mul-cuts : tie.Need-mul-cuts Inv-loop μ-loop
-mul-cuts c = search needs
+mul-cuts c = omega arith
 
 array-read-cuts : tie.Need-array-read-cuts Inv-loop μ-loop
-array-read-cuts c = search needs
+array-read-cuts c = omega arith
 
 array-read-cuts-2 : tie.Need-array-read-cuts-2 Inv-loop μ-loop
-array-read-cuts-2 c = search needs
+array-read-cuts-2 c = omega arith
 
 cuts-requires : tie.Need-cuts-requires Inv-loop μ-loop
-cuts-requires c κs = search needs
+cuts-requires c κs = omega arith
 
 returns : tie.Need-returns Inv-loop μ-loop
 returns c = let s = c .before .before .before .before in let d = c .before .before .before .loop .d in let h = c .before .before .loop-test .taken in sym (all-fails (λ d. leb (2 ^ getD (take (s .args .axes) (s .args .t2)) d 0) (lengthOf (take (s .args .axes) (s .args .t1)) d)) (s .args .axes) d h (cut-slot (s .args .t1) (s .args .t2) (s .args .axes) d h ∙ sym (c .before .cuts .ensures) ∙ not-true _ (c .if1 .taken)))
 
 add-d : tie.Need-add-d Inv-loop μ-loop
-add-d c = search needs
+add-d c = omega arith
 
 loop-less : tie.Need-loop-less Inv-loop μ-loop
-loop-less c = search needs
+loop-less c = omega arith
 
 loop-again : tie.Need-loop-again Inv-loop μ-loop
 loop-again c = let s = c .before .before .before .before in let d = c .before .before .before .loop .d in let h = c .before .before .loop-test .taken in (omega arith, all-next (λ d. leb (2 ^ getD (take (s .args .axes) (s .args .t2)) d 0) (lengthOf (take (s .args .axes) (s .args .t1)) d)) d (c .before .before .before .loop .inv .1) (cut-slot (s .args .t1) (s .args .t2) (s .args .axes) d h ∙ sym (c .before .cuts .ensures) ∙ not-false _ (c .if1 .left)))

@@ -1,7 +1,6 @@
 use Prim.Native.Nat.{_+_, _-_, _*_, _≤_}
 use mathlib.Core.Path.{_≡_}
 use native.Mathlib.Omega.{arith}
-use borrow.Author.Needs.{needs}
 use lib.ListN.{take, drop}
 use Rattle.cube.specs.Ways.{sumList}
 use Rattle.planner.proofs.Judging.{sum-next, sum-end}
@@ -18,22 +17,22 @@ loop-holds : tie.Need-loop-holds Inv-loop μ-loop
 loop-holds c = (omega arith, omega arith, omega arith)
 
 cast-wide : tie.Need-cast-wide Inv-loop μ-loop
-cast-wide c = search needs
+cast-wide c = omega arith
 
 array-read-wide : tie.Need-array-read-wide Inv-loop μ-loop
-array-read-wide c = search needs
+array-read-wide c = omega arith
 
 wide-requires : tie.Need-wide-requires Inv-loop μ-loop
-wide-requires c κs = search needs
+wide-requires c κs = omega arith
 
 add-sum : tie.Need-add-sum Inv-loop μ-loop
-add-sum c = search needs
+add-sum c = omega arith
 
 add-d : tie.Need-add-d Inv-loop μ-loop
-add-d c = search needs
+add-d c = omega arith
 
 loop-less : tie.Need-loop-less Inv-loop μ-loop
-loop-less c = search needs
+loop-less c = omega arith
 
 loop-again : tie.Need-loop-again Inv-loop μ-loop
 loop-again c = let s = c .before .before .before in let i = c .before .before .loop .inv in let e = c .wide .ensures in let q = sum-next (s .args .t1) (s .args .axes) (s .good .0 .1 .0 .1) (s .pre) (c .before .before .loop .d) (c .before .loop-test .taken) in (omega arith, omega arith, omega arith)

@@ -1,3 +1,4 @@
+use native.Mathlib.Omega.{arith}
 use mathlib.Core.Path.{sym, _∙_}
 use borrow.Author.Needs.{needs}
 use Rattle.cube.specs.Checks.{first}
@@ -5,7 +6,7 @@ use Rattle.planner.proofs.checks.lengths_refusal.Statement.{statement}
 use Rattle.planner.proofs.checks.lengths_refusal.Tie as tie
 
 bad-length-requires : tie.Need-bad-length-requires
-bad-length-requires c κs = search needs
+bad-length-requires c κs = omega arith
 
 returns : tie.Need-returns
 unfolding first

@@ -1,7 +1,6 @@
 use Prim.Native.Nat.{_+_, _≤_}
 use mathlib.Core.Path.{_≡_}
 use native.Mathlib.Omega.{arith}
-use borrow.Author.Needs.{needs}
 use Rattle.cube.specs.Ways.{log2}
 use Rattle.planner.proofs.Judging.{log2-next, log2-none, log2-small}
 use Rattle.planner.proofs.checks.log2_of.Statement.{statement}
@@ -14,13 +13,13 @@ abbrev μ-loop : tie.MeasureT-loop
 μ-loop d left₀ halved₀ left halved = left
 
 loop-holds : tie.Need-loop-holds Inv-loop μ-loop
-loop-holds c = search needs
+loop-holds c = omega arith
 
 add-halved : tie.Need-add-halved Inv-loop μ-loop
-add-halved c = search needs
+add-halved c = omega arith
 
 loop-less : tie.Need-loop-less Inv-loop μ-loop
-loop-less c = search needs
+loop-less c = omega arith
 
 loop-again : tie.Need-loop-again Inv-loop μ-loop
 loop-again c = let i = c .before .loop .inv in let q = log2-next (c .before .loop .left) (c .loop-test .taken) in (omega arith, omega arith)

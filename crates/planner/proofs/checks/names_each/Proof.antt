@@ -2,7 +2,6 @@ use Prim.Native.Nat.{_-_, _≤_}
 use mathlib.Core.Path.{_≡_, sym, _∙_}
 use mathlib.Core.Bool.{true}
 use native.Mathlib.Omega.{arith}
-use borrow.Author.Needs.{needs}
 use lib.ListN.{take}
 use Rattle.planner.specs.Refusals.{namesEach}
 use Rattle.planner.proofs.Judging.{names-start, names-next, names-fails, names-end}
@@ -19,16 +18,16 @@ loop-holds : tie.Need-loop-holds Inv-loop μ-loop
 loop-holds c = (omega arith, names-start _)
 
 count-of-requires : tie.Need-count-of-requires Inv-loop μ-loop
-count-of-requires c κs = search needs
+count-of-requires c κs = omega arith
 
 returns : tie.Need-returns Inv-loop μ-loop
 returns c = let s = c .before .before .before .before in sym (names-fails (take (s .args .axes) (s .args .order)) (s .args .axes) (c .before .before .before .loop .axis) (c .before .before .loop-test .taken) (λ e. c .if1 .taken (c .before .count-of .ensures ∙ e)))
 
 add-axis : tie.Need-add-axis Inv-loop μ-loop
-add-axis c = search needs
+add-axis c = omega arith
 
 loop-less : tie.Need-loop-less Inv-loop μ-loop
-loop-less c = search needs
+loop-less c = omega arith
 
 loop-again : tie.Need-loop-again Inv-loop μ-loop
 loop-again c = let s = c .before .before .before .before in (omega arith, names-next (take (s .args .axes) (s .args .order)) (c .before .before .before .loop .axis) (c .before .before .before .loop .inv .1) (sym (c .before .count-of .ensures) ∙ c .if1 .left))

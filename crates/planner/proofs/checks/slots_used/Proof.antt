@@ -1,7 +1,6 @@
 use Prim.Native.Nat.{_-_}
 use mathlib.Core.Path.{_≡_, refl, sym, _∙_}
 use native.Mathlib.Omega.{arith}
-use borrow.Author.Needs.{needs}
 use lib.ListN.{length, length-map}
 use Rattle.planner.specs.Refusals.{slotsUsed}
 use Rattle.planner.proofs.Judging.{or-true, slots-hit, slots-miss, slots-end}
@@ -18,34 +17,34 @@ loop-holds : tie.Need-loop-holds Inv-loop μ-loop
 loop-holds c = let g = c .good .0 .1 .1 .1 .1 in (rw length-map at (g .0 .1 .0 .1), rw length-map at (g .1 .0 .1 .0 .1), rw length-map at (g .1 .1 .0 .1 .0 .1), refl, refl, refl)
 
 cast-i : tie.Need-cast-i Inv-loop μ-loop
-cast-i c = search needs
+cast-i c = omega arith
 
 mul-if1 : tie.Need-mul-if1 Inv-loop μ-loop
-mul-if1 c = search needs
+mul-if1 c = omega arith
 
 element-copy-out-if1 : tie.Need-element-copy-out-if1 Inv-loop μ-loop
-element-copy-out-if1 c = search needs
+element-copy-out-if1 c = omega arith
 
 returns : tie.Need-returns Inv-loop μ-loop
 returns c = let s = c .before .before .before in let p = s .before .args .t1 in let i = s .loop .inv in let h = c .before .before .loop-test .taken in rw (i .3 ∙ slots-hit (p .lengths) (s .loop .d) (omega arith) (c .if1 .taken))
 
 element-copy-out-if2 : tie.Need-element-copy-out-if2 Inv-loop μ-loop
-element-copy-out-if2 c = search needs
+element-copy-out-if2 c = omega arith
 
 returns-2 : tie.Need-returns-2 Inv-loop μ-loop
 returns-2 c = let s = c .before .before .before .before .before in let p = s .before .args .t1 in let i = s .loop .inv in let h = c .before .before .before .before .loop-test .taken in rw (i .4 ∙ slots-hit (p .order) (s .loop .d) (omega arith) (c .if2 .taken)) (sym (or-true (slotsUsed (p .axes) (p .lengths))))
 
 element-copy-out-if3 : tie.Need-element-copy-out-if3 Inv-loop μ-loop
-element-copy-out-if3 c = search needs
+element-copy-out-if3 c = omega arith
 
 returns-3 : tie.Need-returns-3 Inv-loop μ-loop
 returns-3 c = let s = c .before .before .before .before .before .before .before in let p = s .before .args .t1 in let i = s .loop .inv in let h = c .before .before .before .before .before .before .loop-test .taken in rw (i .5 ∙ slots-hit (p .exponents) (s .loop .d) (omega arith) (c .if3 .taken), or-true (slotsUsed (p .axes) (p .order))) (sym (or-true (slotsUsed (p .axes) (p .lengths))))
 
 add-d : tie.Need-add-d Inv-loop μ-loop
-add-d c = search needs
+add-d c = omega arith
 
 loop-less : tie.Need-loop-less Inv-loop μ-loop
-loop-less c = search needs
+loop-less c = omega arith
 
 loop-again : tie.Need-loop-again Inv-loop μ-loop
 loop-again c = let s = c .before .before .before .before .before .before .before in let p = s .before .args .t1 in let i = s .loop .inv in let h = c .before .before .before .before .before .before .loop-test .taken in (i .0, i .1, i .2, i .3 ∙ slots-miss (p .lengths) (s .loop .d) (omega arith) (c .before .before .before .before .if1 .left), i .4 ∙ slots-miss (p .order) (s .loop .d) (omega arith) (c .before .before .if2 .left), i .5 ∙ slots-miss (p .exponents) (s .loop .d) (omega arith) (c .if3 .left))

@@ -1,7 +1,6 @@
 use Prim.Native.Nat.{_-_, _*_, _≤_}
 use mathlib.Core.Path.{_≡_, sym}
 use native.Mathlib.Omega.{arith}
-use borrow.Author.Needs.{needs}
 use lib.ListN.{take}
 use Rattle.cube.specs.Choices as Choices
 use Rattle.cube.specs.Choices.{lengthOf}
@@ -20,13 +19,13 @@ loop-holds : tie.Need-loop-holds Inv-loop μ-loop
 loop-holds c = (omega arith, omega arith, points-start (c .args .t1) (c .args .axes) (c .good .0 .1 .0 .1) (c .pre .0) (c .pre .1))
 
 cast-points : tie.Need-cast-points Inv-loop μ-loop
-cast-points c = search needs
+cast-points c = omega arith
 
 mul-points : tie.Need-mul-points Inv-loop μ-loop
-mul-points c = search needs
+mul-points c = omega arith
 
 array-read-points : tie.Need-array-read-points Inv-loop μ-loop
-array-read-points c = search needs
+array-read-points c = omega arith
 
 cast-points-2 : tie.Need-cast-points-2 Inv-loop μ-loop
 cast-points-2 c = let s = c .before .before in let q = slot-good (s .args .t1) (s .args .axes) (s .good .0 .1 .0 .1) (s .pre .0) (s .pre .1) (c .before .loop .d) (c .loop-test .taken) in omega arith
@@ -38,10 +37,10 @@ returns : tie.Need-returns Inv-loop μ-loop
 returns c = let s = c .before .before .before in let i = c .before .before .loop .inv in sym (points-past (s .args .t1) (s .args .axes) (s .good .0 .1 .0 .1) (s .pre .0) (s .pre .1) (c .before .before .loop .points) (c .before .before .loop .d) (c .before .loop-test .taken) (i .1) (i .2) (c .if1 .taken))
 
 add-d : tie.Need-add-d Inv-loop μ-loop
-add-d c = search needs
+add-d c = omega arith
 
 loop-less : tie.Need-loop-less Inv-loop μ-loop
-loop-less c = search needs
+loop-less c = omega arith
 
 loop-again : tie.Need-loop-again Inv-loop μ-loop
 loop-again c = let s = c .before .before .before in let i = c .before .before .loop .inv in (omega arith, c .if1 .left, points-next (s .args .t1) (s .args .axes) (s .good .0 .1 .0 .1) (s .pre .0) (s .pre .1) (c .before .before .loop .points) (c .before .before .loop .d) (c .before .loop-test .taken) (i .1) (i .2))

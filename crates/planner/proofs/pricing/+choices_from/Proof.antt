@@ -1,7 +1,6 @@
-use mathlib.Core.Path.{sym}
 use native.Mathlib.Omega.{arith}
-use Prim.Native.Nat.{_-_, _≤_}
-use Rattle.planner.proofs.PricingLaws.{sent-fits, cells-small, length-small, more-small, parent-small, moved-small, added-small, kept-undecided, summed-undecided, moved-both, moved-end, added-both, added-end}
+use Prim.Native.Nat.{_-_}
+use Rattle.planner.proofs.PricingLaws.{sent-fits, cells-small, length-small, more-small, parent-small, cells-le, moved-small, added-small, kept-undecided, summed-undecided, moved-both, moved-end, added-both, added-end}
 use Prim.Native.Nat.{ℕ, _<_}
 use borrow.Fn.Kinds.{In}
 use borrow.Fn.PlainCycle.{Measures, is, falls, and}
@@ -49,7 +48,7 @@ choices-from-returns : (t : ℕ) → choices-from-lts.Need-returns (
   choices-from-below t,
   choices-from.Post,
 ) (choices-from-at t) choices-from.Post
-choices-from-returns t c = let a = c .before .before .args in (rw (c .sent-of .ensures .0) (sym (moved-end (a .t1) (a .t2) (a .n) (a .i) (c .before .if1 .taken) (a .k) (a .cells))), sym (added-end (a .t1) (a .t2) (a .n) (a .i) (c .before .if1 .taken) (a .cells) (a .parent)))
+choices-from-returns t c = let s = c .before .before in let a = s .args in let p = s .pre .1 in let h = c .before .if1 .taken in let m = moved-end (a .t1) (a .t2) (a .n) (a .i) h (a .k) (a .cells) (c .sent-of .result) (c .sent-of .ensures .0) in let d = added-end (a .t1) (a .t2) (a .n) (a .i) h (a .cells) (a .parent) in (m, d, rw m (moved-small p), rw d (added-small p))
 
 choices-from-mul-length : (t : ℕ) → choices-from-lts.Need-mul-length (
   sent-of-reads.Asked,
@@ -113,7 +112,7 @@ choices-from-choices-from-requires : (t : ℕ) → choices-from-lts.Need-choices
   choices-from-below t,
   choices-from.Post,
 ) (choices-from-at t) choices-from.Post
-choices-from-choices-from-requires t c κs = let p = c .before .pre .1 in let h : c .before .args .i < c .before .args .n = omega (arith, p .within, c .if1 .left) in (omega (arith, c .before .pre .0), kept-undecided p h)
+choices-from-choices-from-requires t c κs = let s = c .before in let p = s .pre .1 in let l = p .last in let h : s .args .i < s .args .n = omega (arith, p .within, c .if1 .left) in (omega (arith, s .pre .0), kept-undecided p h _ _ _ (omega arith) (omega arith) (omega arith))
 
 choices-from-add-choices-from-2 : (t : ℕ) → choices-from-lts.Need-add-choices-from-2 (
   sent-of-reads.Asked,
@@ -129,7 +128,7 @@ choices-from-choices-from-requires-2 : (t : ℕ) → choices-from-lts.Need-choic
   choices-from-below t,
   choices-from.Post,
 ) (choices-from-at t) choices-from.Post
-choices-from-choices-from-requires-2 t c κs = let s = c .before .before in let p = s .pre .1 in let h : s .args .i < s .args .n = omega (arith, p .within, c .before .if1 .left) in (omega (arith, s .pre .0), summed-undecided p h)
+choices-from-choices-from-requires-2 t c κs = let s = c .before .before in let p = s .pre .1 in let l = p .last in let h : s .args .i < s .args .n = omega (arith, p .within, c .before .if1 .left) in let b = cells-le p h in let e = p .axes .cut (s .args .i) h in (omega (arith, s .pre .0), summed-undecided p h _ _ _ (omega arith) (omega arith) (omega arith))
 
 choices-from-add-t27 : (t : ℕ) → choices-from-lts.Need-add-t27 (
   sent-of-reads.Asked,
@@ -137,7 +136,7 @@ choices-from-add-t27 : (t : ℕ) → choices-from-lts.Need-add-t27 (
   choices-from-below t,
   choices-from.Post,
 ) (choices-from-at t) choices-from.Post
-choices-from-add-t27 t c = let u = c .before .before in let v = u .before in let s = v .before .before in let p = s .pre .1 in let h : s .args .i < s .args .n = omega (arith, p .within, v .before .if1 .left) in let a : v .choices-from .result .moved ≤ 4398046511104 = rw (v .choices-from .ensures .0) (moved-small (kept-undecided p h)) in let b : u .choices-from2 .result .moved ≤ 4398046511104 = rw (u .choices-from2 .ensures .0) (moved-small (summed-undecided p h)) in omega arith
+choices-from-add-t27 t c = let u = c .before .before in let a = u .before .choices-from .ensures in let b = u .choices-from2 .ensures in omega arith
 
 choices-from-add-t28 : (t : ℕ) → choices-from-lts.Need-add-t28 (
   sent-of-reads.Asked,
@@ -145,7 +144,7 @@ choices-from-add-t28 : (t : ℕ) → choices-from-lts.Need-add-t28 (
   choices-from-below t,
   choices-from.Post,
 ) (choices-from-at t) choices-from.Post
-choices-from-add-t28 t c = let u = c .before .before .before .before in let v = u .before in let s = v .before .before in let p = s .pre .1 in let h : s .args .i < s .args .n = omega (arith, p .within, v .before .if1 .left) in let a : v .choices-from .result .added ≤ 4398046511104 = rw (v .choices-from .ensures .1) (added-small (kept-undecided p h)) in let b : u .choices-from2 .result .added ≤ 4398046511104 = rw (u .choices-from2 .ensures .1) (added-small (summed-undecided p h)) in omega arith
+choices-from-add-t28 t c = let u = c .before .before .before .before in let a = u .before .choices-from .ensures in let b = u .choices-from2 .ensures in omega arith
 
 choices-from-returns-2 : (t : ℕ) → choices-from-lts.Need-returns-2 (
   sent-of-reads.Asked,
@@ -153,7 +152,7 @@ choices-from-returns-2 : (t : ℕ) → choices-from-lts.Need-returns-2 (
   choices-from-below t,
   choices-from.Post,
 ) (choices-from-at t) choices-from.Post
-choices-from-returns-2 t c = let u = c .before .before .before .before in let v = u .before in let s = v .before .before in let p = s .pre .1 in let h : s .args .i < s .args .n = omega (arith, p .within, v .before .if1 .left) in let a = s .args in let x = v .choices-from in let y = u .choices-from2 in (moved-both (a .t1) (a .t2) (a .n) (a .i) h (a .k) (a .cells) (a .parent) (x .result .moved) (y .result .moved) (x .ensures .0) (y .ensures .0), added-both (a .t1) (a .t2) (a .n) (a .i) h (a .k) (a .cells) (a .parent) (x .result .added) (y .result .added) (x .ensures .1) (y .ensures .1))
+choices-from-returns-2 t c = let u = c .before .before .before .before in let v = u .before in let s = v .before .before in let p = s .pre .1 in let h : s .args .i < s .args .n = omega (arith, p .within, v .before .if1 .left) in let a = s .args in let x = v .choices-from in let y = u .choices-from2 in let m = moved-both (a .t1) (a .t2) (a .n) (a .i) h (a .k) (a .cells) (a .parent) (x .result .moved) (y .result .moved) (x .ensures .0) (y .ensures .0) in let d = added-both (a .t1) (a .t2) (a .n) (a .i) h (a .k) (a .cells) (a .parent) (x .result .added) (y .result .added) (x .ensures .1) (y .ensures .1) in (m, d, rw m (moved-small p), rw d (added-small p))
 
 pub +choices-from-spec : {M : Type 1} → statement M
 +choices-from-spec = close μ-choices-from λ t. choices-from-lts.spec (

@@ -1,7 +1,6 @@
 use Prim.Native.Nat.{ℕ, _-_, _≤_, _<_}
 use mathlib.Core.Path.{_≡_, refl}
 use native.Mathlib.Omega.{arith}
-use borrow.Author.Needs.{needs}
 use lib.ListN.{length, getD, length-set}
 use Rattle.planner.proofs.PricingLaws.{filled-next}
 use Rattle.planner.proofs.pricing.lengths_along.Statement.{statement}
@@ -17,7 +16,7 @@ loop-holds : tie.Need-loop-holds Inv-loop μ-loop
 loop-holds c = (omega arith, c .pre .0, refl, λ j h. absurd (omega arith))
 
 array-read-axis : tie.Need-array-read-axis Inv-loop μ-loop
-array-read-axis c = search needs
+array-read-axis c = omega arith
 
 cast-axis : tie.Need-cast-axis Inv-loop μ-loop
 cast-axis c = let s = c .before .before in let q = s .pre .1 (c .before .loop .d) (c .loop-test .taken) in omega arith
@@ -29,16 +28,16 @@ array-read-along : tie.Need-array-read-along Inv-loop μ-loop
 array-read-along c = let s = c .before .before in s .pre .1 (c .before .loop .d) (c .loop-test .taken)
 
 mul-along-2 : tie.Need-mul-along-2 Inv-loop μ-loop
-mul-along-2 c = search needs
+mul-along-2 c = omega arith
 
 array-write-along : tie.Need-array-write-along Inv-loop μ-loop
-array-write-along c = search needs
+array-write-along c = omega arith
 
 add-d : tie.Need-add-d Inv-loop μ-loop
-add-d c = search needs
+add-d c = omega arith
 
 loop-less : tie.Need-loop-less Inv-loop μ-loop
-loop-less c = search needs
+loop-less c = omega arith
 
 loop-again : tie.Need-loop-again Inv-loop μ-loop
 loop-again c = let z = c .before in let s = z .before in let i = z .loop .inv in (omega arith, i .1, simp length-set (i .2), filled-next (λ j. getD (s .args .t1) (getD (s .args .t2) j 0) 0) (z .loop .along) (z .loop .d) (omega arith) (i .3))

@@ -1,5 +1,4 @@
 use native.Mathlib.Omega.{arith}
-use borrow.Author.Needs.{needs}
 use lib.ListN.{length}
 use Rattle.cube.specs.Portions.{ceiling}
 use Rattle.planner.proofs.PricingLaws.{shifted, power-small}
@@ -7,10 +6,10 @@ use Rattle.planner.proofs.pricing.most_of.Statement.{statement}
 use Rattle.planner.proofs.pricing.most_of.Tie as tie
 
 shl-parts : tie.Need-shl-parts
-shl-parts c = search needs
+shl-parts c = omega arith
 
 sub-result : tie.Need-sub-result
-sub-result c = rw (shifted (c .args .k) (c .pre)) (power-small (c .args .k) (c .pre) .0)
+sub-result c = let p = power-small (c .args .k) (c .pre) in rw (shifted (c .args .k) (c .pre)) (omega arith)
 
 add-result : tie.Need-add-result
 add-result c = let p = power-small (c .args .k) (c .pre) in let f = c .fits .length .fits in rw (shifted (c .args .k) (c .pre)) (omega arith)

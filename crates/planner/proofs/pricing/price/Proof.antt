@@ -1,5 +1,5 @@
+use native.Mathlib.Omega.{arith}
 use mathlib.Core.Path.{sym, _∙_}
-use borrow.Author.Needs.{needs}
 use Rattle.planner.specs.Plans.{listsOf}
 use Rattle.planner.specs.Refusals.{planRefusal}
 use Rattle.planner.specs.Answers.{pricing, pricesOf}
@@ -8,7 +8,7 @@ use Rattle.planner.proofs.pricing.price.Statement.{statement}
 use Rattle.planner.proofs.pricing.price.Tie as tie
 
 plan-refusal-requires : tie.Need-plan-refusal-requires
-plan-refusal-requires c κs = search needs
+plan-refusal-requires c κs = omega arith
 
 returns : tie.Need-returns
 unfolding pricing

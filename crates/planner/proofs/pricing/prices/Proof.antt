@@ -1,11 +1,11 @@
+use native.Mathlib.Omega.{arith}
 use Rattle.planner.proofs.Accepting.{passed-accepted}
-use borrow.Author.Needs.{needs}
 use Rattle.planner.proofs.PricingLaws.{few-axes, order-fits, priceable, undecided, prices-same}
 use Rattle.planner.proofs.pricing.prices.Statement.{statement}
 use Rattle.planner.proofs.pricing.prices.Tie as tie
 
 cast-n : tie.Need-cast-n
-cast-n c = search needs
+cast-n c = omega arith
 
 lengths-along-requires : tie.Need-lengths-along-requires
 lengths-along-requires c κs = let s = c .before .before .before .before in let g = s .good .0 .1 .1 .1 .1 in let ok = passed-accepted (s .args .plan) (g .0 .1 .0 .1) (g .1 .0 .1 .0 .1) (g .1 .1 .0 .1 .0 .1) (s .pre) in (few-axes ok, order-fits (s .args .plan) ok)

@@ -2,7 +2,6 @@ use Prim.Native.Nat.{_-_, _*_, _≤_}
 use mathlib.Core.Path.{_≡_}
 use mathlib.Core.Logic.{⊎-elim}
 use native.Mathlib.Omega.{arith}
-use borrow.Author.Needs.{needs}
 use mathlib.Core.List.{[], _∷_}
 use Rattle.cube.specs.Boxes.{product}
 use Rattle.cube.specs.Tree.{kept, regionSize}
@@ -21,13 +20,13 @@ loop-holds : tie.Need-loop-holds Inv-loop μ-loop
 loop-holds c = (omega arith, c .pre .few, region-start (c .args .t1) (c .args .t2) (c .args .n) (c .pre) (c .args .i))
 
 mul-most-of : tie.Need-mul-most-of Inv-loop μ-loop
-mul-most-of c = search needs
+mul-most-of c = omega arith
 
 array-read-most-of : tie.Need-array-read-most-of Inv-loop μ-loop
-array-read-most-of c = search needs
+array-read-most-of c = omega arith
 
 array-read-most-of-2 : tie.Need-array-read-most-of-2 Inv-loop μ-loop
-array-read-most-of-2 c = search needs
+array-read-most-of-2 c = omega arith
 
 most-of-requires : tie.Need-most-of-requires Inv-loop μ-loop
 most-of-requires c κs = c .before .before .before .pre .cut (c .before .before .loop .d) (c .before .loop-test .taken)
@@ -37,10 +36,10 @@ unfolding mostOf
 mul-size c = let z = c .before .before .before in let s = z .before in let f = region-fits (s .args .t1) (s .args .t2) (s .args .n) (s .pre) (s .args .i) (z .loop .d) (z .loop .size) (c .before .before .loop-test .taken) (z .loop .inv .2) (c .before .if1 .taken) in rw (c .most-of .ensures) (omega arith)
 
 add-d : tie.Need-add-d Inv-loop μ-loop
-add-d c = search needs
+add-d c = omega arith
 
 loop-less : tie.Need-loop-less Inv-loop μ-loop
-loop-less c = search needs
+loop-less c = omega arith
 
 loop-again : tie.Need-loop-again Inv-loop μ-loop
 unfolding mostOf

@@ -1,15 +1,15 @@
+use native.Mathlib.Omega.{arith}
 use mathlib.Core.Path.{refl}
-use borrow.Author.Needs.{needs}
 use Rattle.cube.specs.Tree.{sent}
 use Rattle.planner.proofs.PricingLaws.{shifted, power-small, sent-small}
 use Rattle.planner.proofs.pricing.sent_of.Statement.{statement}
 use Rattle.planner.proofs.pricing.sent_of.Tie as tie
 
 shl-result : tie.Need-shl-result
-shl-result c = search needs
+shl-result c = omega arith
 
 sub-result : tie.Need-sub-result
-sub-result c = rw (shifted (c .args .k) (c .pre)) (power-small (c .args .k) (c .pre) .0)
+sub-result c = let p = power-small (c .args .k) (c .pre) in rw (shifted (c .args .k) (c .pre)) (omega arith)
 
 returns : tie.Need-returns
 unfolding sent

@@ -1,7 +1,6 @@
 use Prim.Native.Nat.{_-_, _*_, _≤_}
 use mathlib.Core.Path.{_≡_, sym, _∙_}
 use native.Mathlib.Omega.{arith}
-use borrow.Author.Needs.{needs}
 use Rattle.cube.specs.Tree.{regionStart}
 use Rattle.planner.specs.Pricing.{mostOf}
 use Rattle.planner.proofs.PricingLaws.{share-none, share-next, share-end}
@@ -18,16 +17,16 @@ loop-holds : tie.Need-loop-holds Inv-loop μ-loop
 loop-holds c = (omega arith, c .pre .few, omega arith, sym (share-none (c .args .n) (mostOf (c .args .lengths) (c .args .exponents))))
 
 region-size-requires : tie.Need-region-size-requires Inv-loop μ-loop
-region-size-requires c κs = search needs
+region-size-requires c κs = c .before .before .pre
 
 add-share : tie.Need-add-share Inv-loop μ-loop
-add-share c = search needs
+add-share c = omega arith
 
 add-i : tie.Need-add-i Inv-loop μ-loop
-add-i c = search needs
+add-i c = omega arith
 
 loop-less : tie.Need-loop-less Inv-loop μ-loop
-loop-less c = search needs
+loop-less c = omega arith
 
 loop-again : tie.Need-loop-again Inv-loop μ-loop
 loop-again c = let z = c .before .before in let s = z .before in let i = z .loop .inv in let e = c .region-size .ensures in let q = share-next (s .args .n) (z .loop .i) (mostOf (s .args .lengths) (s .args .exponents)) in (omega arith, i .1, omega arith, omega arith)
@@ -48,5 +47,3 @@ share-size-spec =
     loop-less
     loop-again
     returns)
-
--- x
