@@ -313,7 +313,8 @@ module _ (q : Plan) (ok : Accepted q) where
   unfolding listsOf
   order-fits d h = let b = below d h in let g = getD-take (q .axes) (q .order) d 0 h in let e = ok .axes in let f = ok .lengths .few in omega arith
 
-  along : (slots : List ℕ) (d : ℕ) → d < q .axes → getD slots (getD (q .order) d 0) 0 ≡ getD (take (q .axes) slots) (getD (take (q .axes) (q .order)) d 0) 0
+  -- what the axis at place d has in its slot
+  pub along : (slots : List ℕ) (d : ℕ) → d < q .axes → getD slots (getD (q .order) d 0) 0 ≡ getD (take (q .axes) slots) (getD (take (q .axes) (q .order)) d 0) 0
   along slots d h =
       let b = below d h in
       sym (getD-take (q .axes) slots (getD (take (q .axes) (q .order)) d 0) 0 b ∙ ap (λ a. getD slots a 0) (getD-take (q .axes) (q .order) d 0 h))

@@ -1,16 +1,20 @@
 -- What is written is read: the tape written for lengths, p and points holds them, and a 52 of count n means what n 56s mean.
-use Prim.Native.Nat.{ℕ, zero, suc, _+_, _*_, _/_, _%_, _^_, _<_}
+use Prim.Native.Nat.{ℕ, zero, suc, _+_, _*_, _/_, _%_, _^_, _≤_, _<_}
 use mathlib.Core.Path.{_≡_, refl, ap, _∙_}
 use mathlib.Core.Option.{Option, none, some}
 use mathlib.Core.List.{List, [], _∷_, _++_, append-assoc, append-nil}
 use native.Mathlib.Omega.{arith}
-use lib.ListN.{replicate}
+use borrow.Author.Tests.{le-ltb}
+use lib.ListN.{length, drop, replicate}
 use lib.IntN.{ℤ}
 use mir.Syntax.{w32}
 use mir.Val.{SFits, ofZ, toZ}
 use mir.Facts.{toZ-ofZ, fits-ofZ}
+use Rattle.cube.specs.Limits.{tapeLimit, padded}
 use Rattle.cube.specs.Bytes.{little}
+use Rattle.cube.specs.Checks.{first}
 use Rattle.tape.specs.Tapes.{axis, boards, points, end, signed32, point, repeated, command, Campaign, campaign, withPoints, withLength, withBoards, pointsThen}
+use Rattle.tape.specs.Reading.{tooLong, scanChecks, scanRefusal, scannedAs, scanning, shortSlice, readingChecks, readingRefusal, filledOr, reading}
 use Rattle.tape.specs.Decoding.{pointsIn}
 use Rattle.tape.specs.Writing.{bytes, axisCommand, boardsCommand, pointCommand, repeatCommand, endCommand, each, headed, written, Every}
 use Rattle.tape.proofs.Forms.{points-next, campaign-next}
@@ -104,6 +108,16 @@ unfolding written pointsThen
 holds ds p vs h k =
     let e : pointsIn endCommand ≡ some [] = points-next endCommand ∙ rw reads-end in
     rw (holds-head ds p (each pointCommand vs ++ endCommand) h, holds-points vs endCommand k, e, append-nil vs) (lengths-of ds p vs)
+
+-- so it is scanned and read as that, if it is within the limit
+module _ (ds : List ℕ) (p : ℕ) (vs : List ℤ) (h : Every (λ d. d < 2 ^ 16) ds) (k : Every (SFits w32) vs) (few : length (written ds p vs) ≤ tapeLimit) where
+  pub scans-written : scanning (written ds p vs) ≡ record { refusal = 0; axes = length ds; lengths = padded ds; p = p; points = length vs }
+  unfolding scanning scanRefusal scanChecks first tooLong scannedAs
+  scans-written = rw (holds ds p vs h k, le-ltb tapeLimit (length (written ds p vs)) few)
+
+  pub reads-written : (s : List ℤ) → length vs ≤ length s → (readingRefusal (written ds p vs) (length s) ≡ 0) × (reading (written ds p vs) s ≡ vs ++ drop (length vs) s)
+  unfolding reading readingRefusal readingChecks scanChecks first tooLong shortSlice filledOr
+  reads-written s l = rw (holds ds p vs h k, le-ltb tapeLimit (length (written ds p vs)) few, le-ltb (length s) (length vs) l) (refl, refl)
 
 -- ---- a 52 of count n and n 56s
 
