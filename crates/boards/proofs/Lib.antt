@@ -7,6 +7,7 @@ pub mod Masks
 pub mod Moving
 pub mod Counting
 pub mod Tallies
+pub mod Tallied
 pub mod Listed
 pub mod Cases
 pub mod Begun

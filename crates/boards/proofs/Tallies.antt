@@ -1,16 +1,15 @@
 -- A walk has as many steps as the code counts.
-use Prim.Native.Nat.{ℕ, zero, suc, _+_, _-_, _*_, _^_, _≤_, _<_}
-use mathlib.Core.Path.{_≡_, sym, _∙_, refl, ap, ap₂}
-use mathlib.Core.Bool.{true, false}
-use mathlib.Core.List.{List, [], _∷_}
+use Prim.Native.Nat.{ℕ, zero, suc, _+_, _-_, _*_}
+use mathlib.Core.Path.{_≡_, sym, _∙_, ap, ap₂}
+use mathlib.Core.List.{List, _∷_}
 use native.Mathlib.Nat.{zero-add, zero-mul, mul-one}
 use native.Mathlib.Omega.{arith}
 use lib.ListN.{length}
 use lib.Pow.{pow-pos}
 use Rattle.cube.specs.Boxes.{product}
-use Rattle.cube.specs.Tree.{kept, has, lastOf, overSetsFrom}
-use Rattle.boards.specs.Grids.{Grid, Lawful, boards}
-use Rattle.boards.specs.Steps.{steps, walk, transfers, visit}
+use Rattle.cube.specs.Tree.{kept, has, overSetsFrom}
+use Rattle.boards.specs.Grids.{Grid, Lawful}
+use Rattle.boards.specs.Steps.{steps, walk}
 use Rattle.boards.specs.Counts.{span, ways, sendings, marks, walkCount}
 use Rattle.cube.proofs.Boxing.{product-cong}
 use Rattle.cube.proofs.Products.{product-append, product-last}
