@@ -17,7 +17,7 @@ pub struct Tally {
 }
 
 // Into how many portions the axis at place d is cut.
-pub fn parts_of(plan: Plan, d: usize) -> u64
+fn parts_of(plan: Plan, d: usize) -> u64
     requires { ⌜ (planRefusal plan ≡ 0) × (d < plan .axes) ⌝ }
     ensures { λ r. ⌜ (r ≡ gridOf (listsOf plan) .parts d) × (1 ≤ r) × (r ≤ 1024) ⌝ }
 {
@@ -26,7 +26,7 @@ pub fn parts_of(plan: Plan, d: usize) -> u64
 }
 
 // Over the axes from place d on.
-pub fn tally_from(plan: Plan, d: usize) -> Tally
+fn tally_from(plan: Plan, d: usize) -> Tally
     requires { ⌜ (planRefusal plan ≡ 0) × (d ≤ plan .axes) ⌝ }
     ensures { λ r. ⌜ (r .span ≡ span (gridOf (listsOf plan)) (plan .axes - d) d) × (r .sent ≡ sendings (gridOf (listsOf plan)) (plan .axes - d) d) × (r .span ≤ 1024) × (r .sent ≤ 262144) ⌝ }
 {
@@ -42,7 +42,7 @@ pub fn tally_from(plan: Plan, d: usize) -> Tally
 }
 
 // The finishes and the expansions of a walk over m axes.
-pub fn marks_of(m: usize) -> u64
+fn marks_of(m: usize) -> u64
     requires { ⌜ m ≤ 8 ⌝ }
     ensures { λ r. ⌜ (r ≡ marks m) × (r ≤ 512) ⌝ }
 {

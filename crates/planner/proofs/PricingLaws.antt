@@ -10,8 +10,8 @@ use lib.Dec.{eqb}
 use lib.ListN.{length, getD, take, set}
 use lib.Pow.{pow-pos, pow-mono}
 use lib.Seq.{getD-take, getD-set-same, getD-set-other}
-use Rattle.cube.specs.Limits.{pointLimit, powerLimit}
-use Rattle.cube.specs.Boxes.{pick, sumN, product, tableFrom}
+use Rattle.cube.specs.Limits.{pointLimit, powerLimit, padded}
+use Rattle.cube.specs.Boxes.{pick, sumN, product, tableFrom, table}
 use Rattle.cube.specs.Choices.{points, lengthOf}
 use Rattle.cube.specs.Portions.{ceiling}
 use Rattle.cube.specs.Tree as Tree
@@ -19,6 +19,7 @@ use Rattle.cube.specs.Tree.{has, kept, choiceCells, sent, regionSize, regionSta
 use Rattle.cube.specs.Ways.{sumList}
 use Rattle.cube.specs.Checks.{gives, refuses, answered}
 use Rattle.cube.proofs.Sums.{by}
+use Rattle.cube.proofs.Slots.{padded-at, table-here}
 use Rattle.cube.proofs.Boxing.{product-cong}
 use Rattle.cube.proofs.Naturals.{sumN-cong}
 use Rattle.cube.proofs.Products.{product-pos, product-le, factor-le, product-next, product-none}
@@ -293,6 +294,10 @@ unfolding shareSize regionStart regionSize choiceCells kept
 share-cong n most most′ same = sumN-cong n (λ i h. product-cong n 0 (λ d a b. ap (λ x. pick (has (i ∷ []) d) 1 x) (same d (omega arith))))
 
 -- ---- a plan along its order
+
+-- a table in slots, as the code fills it
+pub table-slot : (n : ℕ) (f : ℕ → ℕ) (r : List ℕ) → n ≤ 8 → r ≡ padded (table n f) → (d : ℕ) → d < n → getD r d 0 ≡ f d
+table-slot n f r few e d h = ap (λ l. getD l d 0) e ∙ padded-at (table n f) d (omega arith) ∙ table-here n f d h
 
 sum-member : (l : List ℕ) (d : ℕ) → getD l d 0 ≤ sumList l
 unfolding sumList

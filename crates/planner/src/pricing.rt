@@ -10,6 +10,7 @@ ghost use Rattle.planner.specs.Refusals.{planRefusal};
 ghost use Rattle.planner.specs.Answers.{pricesOf, pricedReply, pricing};
 ghost use Rattle.planner.specs.Pricing.{movedFrom, addedFrom, mostOf, Priceable, Undecided};
 use crate::checks::plan_refusal;
+use crate::rule::in_order;
 use crate::types::Plan;
 use crate::types::Priced;
 use crate::types::Prices;
@@ -99,21 +100,6 @@ fn share_size(lengths: [u32; 8], exponents: [u8; 8], n: usize) -> u64
     share
 }
 
-// Lengths in plan order.
-fn lengths_along(lengths: [u32; 8], order: [u8; 8], n: usize) -> [u32; 8]
-    requires { ⌜ (n ≤ axisLimit) × ((d : ℕ) → d < n → getD order d 0 < axisLimit) ⌝ }
-    ensures { λ r. ⌜ ((d : ℕ) → d < n → getD r d 0 ≡ getD lengths (getD order d 0) 0) ⌝ }
-{
-    let mut along = [0u32; 8];
-    let mut d: usize = 0;
-    while d < n {
-        let axis = order[d] as usize;
-        along[d] = lengths[axis];
-        d += 1;
-    }
-    along
-}
-
 // Exponents in plan order.
 fn exponents_along(exponents: [u8; 8], order: [u8; 8], n: usize) -> [u8; 8]
     requires { ⌜ (n ≤ axisLimit) × ((d : ℕ) → d < n → getD order d 0 < axisLimit) ⌝ }
@@ -138,7 +124,7 @@ pub fn prices(plan: Plan) -> Prices
     let by_axis = plan.lengths;
     let cuts = plan.exponents;
     let order = plan.order;
-    let lengths = lengths_along(by_axis, order, n);
+    let lengths = in_order(by_axis, order, n);
     let exponents = exponents_along(cuts, order, n);
     let sums = choices_from(lengths, exponents, n, 0, 0, 1, 0);
     let share = share_size(lengths, exponents, n);

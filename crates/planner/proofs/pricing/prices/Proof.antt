@@ -1,33 +1,33 @@
 use native.Mathlib.Omega.{arith}
 use Rattle.planner.proofs.Accepting.{passed-accepted}
-use Rattle.planner.proofs.PricingLaws.{few-axes, order-fits, priceable, undecided, prices-same}
+use Rattle.planner.proofs.PricingLaws.{table-slot, few-axes, order-fits, priceable, undecided, prices-same}
 use Rattle.planner.proofs.pricing.prices.Statement.{statement}
 use Rattle.planner.proofs.pricing.prices.Tie as tie
 
 cast-n : tie.Need-cast-n
 cast-n c = omega arith
 
-lengths-along-requires : tie.Need-lengths-along-requires
-lengths-along-requires c κs = let s = c .before .before .before .before in let g = s .good .0 .1 .1 .1 .1 in let ok = passed-accepted (s .args .plan) (g .0 .1 .0 .1) (g .1 .0 .1 .0 .1) (g .1 .1 .0 .1 .0 .1) (s .pre) in (few-axes ok, order-fits (s .args .plan) ok)
+in-order-requires : tie.Need-in-order-requires
+in-order-requires c κs = let s = c .before .before .before .before in let g = s .good .0 .1 .1 .1 .1 in let ok = passed-accepted (s .args .plan) (g .0 .1 .0 .1) (g .1 .0 .1 .0 .1) (g .1 .1 .0 .1 .0 .1) (s .pre) in (few-axes ok, order-fits (s .args .plan) ok)
 
 exponents-along-requires : tie.Need-exponents-along-requires
 exponents-along-requires c κs = let s = c .before .before .before .before .before in let g = s .good .0 .1 .1 .1 .1 in let ok = passed-accepted (s .args .plan) (g .0 .1 .0 .1) (g .1 .0 .1 .0 .1) (g .1 .1 .0 .1 .0 .1) (s .pre) in (few-axes ok, order-fits (s .args .plan) ok)
 
 choices-from-requires : tie.Need-choices-from-requires
-choices-from-requires c κs = let s = c .before .before .before .before .before .before in let g = s .good .0 .1 .1 .1 .1 in let ok = passed-accepted (s .args .plan) (g .0 .1 .0 .1) (g .1 .0 .1 .0 .1) (g .1 .1 .0 .1 .0 .1) (s .pre) in undecided (c .before .lengths-along .result) (c .exponents-along .result) (s .args .plan .axes) (priceable (s .args .plan) ok (c .before .lengths-along .result) (c .exponents-along .result) (c .before .lengths-along .ensures) (c .exponents-along .ensures))
+choices-from-requires c κs = let s = c .before .before .before .before .before .before in let g = s .good .0 .1 .1 .1 .1 in let ok = passed-accepted (s .args .plan) (g .0 .1 .0 .1) (g .1 .0 .1 .0 .1) (g .1 .1 .0 .1 .0 .1) (s .pre) in undecided (c .before .in-order .result) (c .exponents-along .result) (s .args .plan .axes) (priceable (s .args .plan) ok (c .before .in-order .result) (c .exponents-along .result) (table-slot (s .args .plan .axes) _ (c .before .in-order .result) (few-axes ok) (c .before .in-order .ensures)) (c .exponents-along .ensures))
 
 share-size-requires : tie.Need-share-size-requires
-share-size-requires c κs = let s = c .before .before .before .before .before .before .before in let g = s .good .0 .1 .1 .1 .1 in let ok = passed-accepted (s .args .plan) (g .0 .1 .0 .1) (g .1 .0 .1 .0 .1) (g .1 .1 .0 .1 .0 .1) (s .pre) in priceable (s .args .plan) ok (c .before .before .lengths-along .result) (c .before .exponents-along .result) (c .before .before .lengths-along .ensures) (c .before .exponents-along .ensures)
+share-size-requires c κs = let s = c .before .before .before .before .before .before .before in let g = s .good .0 .1 .1 .1 .1 in let ok = passed-accepted (s .args .plan) (g .0 .1 .0 .1) (g .1 .0 .1 .0 .1) (g .1 .1 .0 .1 .0 .1) (s .pre) in priceable (s .args .plan) ok (c .before .before .in-order .result) (c .before .exponents-along .result) (table-slot (s .args .plan .axes) _ (c .before .before .in-order .result) (few-axes ok) (c .before .before .in-order .ensures)) (c .before .exponents-along .ensures)
 
 returns : tie.Need-returns
-returns c = let s = c .before .before .before .before .before .before .before .before in let g = s .good .0 .1 .1 .1 .1 in let ok = passed-accepted (s .args .plan) (g .0 .1 .0 .1) (g .1 .0 .1 .0 .1) (g .1 .1 .0 .1 .0 .1) (s .pre) in rw (c .before .choices-from .ensures .0, c .before .choices-from .ensures .1, c .share-size .ensures) (prices-same (s .args .plan) ok (c .before .before .before .lengths-along .result) (c .before .before .exponents-along .result) (c .before .before .before .lengths-along .ensures) (c .before .before .exponents-along .ensures))
+returns c = let s = c .before .before .before .before .before .before .before .before in let g = s .good .0 .1 .1 .1 .1 in let ok = passed-accepted (s .args .plan) (g .0 .1 .0 .1) (g .1 .0 .1 .0 .1) (g .1 .1 .0 .1 .0 .1) (s .pre) in rw (c .before .choices-from .ensures .0, c .before .choices-from .ensures .1, c .share-size .ensures) (prices-same (s .args .plan) ok (c .before .before .before .in-order .result) (c .before .before .exponents-along .result) (table-slot (s .args .plan .axes) _ (c .before .before .before .in-order .result) (few-axes ok) (c .before .before .before .in-order .ensures)) (c .before .before .exponents-along .ensures))
 
 pub prices-spec : {M : Type 1} → statement M
 prices-spec =
     tie.close
     (tie.spec
     cast-n
-    lengths-along-requires
+    in-order-requires
     exponents-along-requires
     choices-from-requires
     share-size-requires
