@@ -15,21 +15,9 @@ use Rattle.cube.proofs.Sets.{Down, down-up, down-out, has-head}
 use Rattle.boards.specs.Grids.{Grid, boards}
 use Rattle.boards.specs.Steps.{TreeStep, expand, finish, transfers, visit, walk, steps}
 use Rattle.boards.specs.Held.{same, expandsIt, finishesIt, own, heldAfter, held}
+use Rattle.boards.specs.Finding.{into, visited, heldWalk}
 use Rattle.boards.proofs.Finishing.{same-refl}
 use Rattle.boards.proofs.Begun.{take-joined, fits, some-expands, none-finishes, fits-joined, fits-first, Seeks, seeks-expand, seeks-finish, Alike, alike-more, over-alike, transfers-none, visit-none, walk-none}
-
--- how many steps of the visit of the child are taken when `at` steps of the walk are
-abbrev pub into : Grid → ℕ → ℕ → List ℕ → ℕ → ℕ
-into g m d Y at = at - length (walk g m (d + 1) Y) - length (transfers g (d ∷ Y) (boards g))
-
-abbrev pub visited : Grid → ℕ → ℕ → List ℕ → List TreeStep
-visited g m d Y = visit (d ∷ Y) m (walk g m (d + 1) (d ∷ Y))
-
--- what board b holds of the choices in a walk when `at` of its steps are taken: of the right siblings, of the child, and of the choices below it
-unfoldable pub heldWalk : Grid → ℕ → ℕ → ℕ → List ℕ → ℕ → ℕ
-heldWalk g b zero d Y at = 0
-heldWalk g b (suc m) d Y at =
-    heldWalk g b m (d + 1) Y at + (pick (ltb (into g m d Y at) (length (visited g m d Y))) (own g b (d ∷ Y)) 0 + pick (eqb (into g m d Y at) 0) 0 (heldWalk g b m (d + 1) (d ∷ Y) (into g m d Y at - 1)))
 
 -- ---- a walk's first steps, part by part
 

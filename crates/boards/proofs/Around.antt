@@ -10,7 +10,7 @@ use Rattle.cube.specs.Boxes.{put, product, place, position, Within}
 use Rattle.cube.proofs.Products.{product-append}
 use Rattle.cube.proofs.Sums.{by, put-same, put-other}
 use Rattle.cube.proofs.Boxing.{row-of, place-cong, place-lt, position-lt, place-position}
-use Rattle.boards.specs.Grids.{Grid, boards, label, withLabel}
+use Rattle.boards.specs.Grids.{Grid, boards, label, boardWith, withLabel}
 
 -- ---- a box of m axes from d on, cut around axis j: the axes before j, axis j, and the axes after it
 
@@ -19,7 +19,7 @@ unfoldable pub inner : (ℕ → ℕ) → ℕ → ℕ → ℕ → ℕ
 inner e m d j = product e (d + m - suc j) (suc j)
 
 -- a box in two pieces
-place-append : (e x : ℕ → ℕ) (a b d : ℕ) → place e x (a + b) d ≡ place e x a d * product e b (d + a) + place e x b (d + a)
+pub place-append : (e x : ℕ → ℕ) (a b d : ℕ) → place e x (a + b) d ≡ place e x a d * product e b (d + a) + place e x b (d + a)
 unfolding place
 place-append e x zero b d =
     let z : 0 + b ≡ b = zero-add b in
@@ -83,5 +83,5 @@ module _ (g : Grid) where
 
   -- the sender with label l of a board whose label is 0
   pub sender-formula : (b j l : ℕ) → b < boards g → j < g .axes → label g b j ≡ 0 → withLabel g b j l ≡ b + l * inner (g .parts) (g .axes) 0 j
-  unfolding boards label withLabel
+  unfolding boards label withLabel boardWith
   sender-formula b j l h r z = place-moved (g .axes) j r (g .parts) (position (g .parts) (g .axes) 0 b) l z ∙ ap (λ c. c + l * inner (g .parts) (g .axes) 0 j) (place-position (g .parts) (g .axes) 0 b h)

@@ -66,7 +66,7 @@ module _ (t : TreeStep → Bool) where
   fits-first (suc n) [] e = refl
   fits-first (suc n) (x ∷ l) e = by (t x) (λ q. clash (simp q at e)) (λ q. simp q (fits-first n l (simp q at e)))
 
-  each-none : (n : ℕ) (f : ℕ → List TreeStep) → ((i : ℕ) → fits t (f i) ≡ false) → fits t (each n f) ≡ false
+  pub each-none : (n : ℕ) (f : ℕ → List TreeStep) → ((i : ℕ) → fits t (f i) ≡ false) → fits t (each n f) ≡ false
   unfolding fits each
   each-none zero f h = refl
   each-none (suc n) f h = joined-none (each n f) (f n) (each-none n f h) (h n)
@@ -78,7 +78,7 @@ pub record Seeks (t : TreeStep → Bool) (Z : List ℕ) : Type 0 where
   pub other-expand : (W : List ℕ) → (Z ≡ W → ⊥) → t (expand W) ≡ false
   pub other-finish : (W : List ℕ) → (Z ≡ W → ⊥) → t (finish W) ≡ false
 
-not-same : (Y Z : List ℕ) → (Y ≡ Z → ⊥) → same Y Z ≡ false
+pub not-same : (Y Z : List ℕ) → (Y ≡ Z → ⊥) → same Y Z ≡ false
 not-same Y Z h = by (same Y Z) (λ t. absurd (h (same-true Y Z t))) (λ t. t)
 
 pub seeks-expand : (Z : List ℕ) → Seeks (expandsIt Z) Z

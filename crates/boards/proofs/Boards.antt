@@ -11,7 +11,7 @@ use lib.Dec.{eqb}
 use Rattle.cube.specs.Boxes.{sumN, Within, pick, place, product, put}
 use Rattle.cube.specs.Tree as Tree
 use Rattle.cube.specs.Tree.{has, kept, lastOf}
-use Rattle.boards.specs.Grids.{Grid, Lawful, boardOf, boards, box, cellAt, cellOf, cells, extent, index, label, lead, regionFrom, regionOf, regionSize, regionStart, share, withLabel}
+use Rattle.boards.specs.Grids.{Grid, Lawful, boardOf, boards, box, cellAt, cellOf, cells, extent, index, label, lead, regionFrom, regionOf, regionSize, regionStart, share, boardWith, withLabel}
 use Rattle.cube.proofs.Sums.{by, put-same, put-other}
 use Rattle.cube.proofs.Products.{product-le}
 use Rattle.cube.proofs.Boxing.{row-of, rest-of, product-cong, place-cong, place-lt, position-place, position-lt}
@@ -86,11 +86,11 @@ module _ (g : Grid) (ok : Lawful g) where
       (λ t. rw (put-other (label g b) j l i (eqb-false i j t)) (label-lt b i h (omega arith)))
 
   pub sender-lt : (b j l : ℕ) → b < boards g → l < g .parts j → withLabel g b j l < boards g
-  unfolding boards withLabel
+  unfolding boards withLabel boardWith
   sender-lt b j l h k = place-lt (g .axes) 0 (unfold boards in labels-ok b j l h k)
 
   sender-label : (b j l d : ℕ) → b < boards g → l < g .parts j → d < g .axes → label g (withLabel g b j l) d ≡ put (label g b) j l d
-  sender-label b j l d h k r = unfold label withLabel in position-place (g .axes) 0 d (labels-ok b j l h k) (omega arith) (omega arith)
+  sender-label b j l d h k r = unfold label withLabel boardWith in position-place (g .axes) 0 d (labels-ok b j l h k) (omega arith) (omega arith)
 
   pub sender-same : (b j l : ℕ) → b < boards g → l < g .parts j → j < g .axes → label g (withLabel g b j l) j ≡ l
   sender-same b j l h k r = sender-label b j l j h k r ∙ put-same (label g b) j l

@@ -10,18 +10,13 @@ use borrow.Author.Tests.{eqb-true, eqb-false, eq-eqb}
 use lib.Dec.{eqb}
 use Rattle.cube.specs.Boxes.{pick}
 use Rattle.cube.specs.Tree.{has, lastOf}
-use Rattle.boards.specs.Grids.{Grid, boards, lead}
+use Rattle.boards.specs.Grids.{Grid, setOf, boards, lead}
 use Rattle.boards.specs.Held.{finishesIt, finishes, same}
 use Rattle.boards.specs.Steps.{TreeStep, each, expand, finish, steps, sends, transfer, transfers, visit, walk}
 use Rattle.cube.proofs.Sums.{by}
 use Rattle.cube.proofs.Naturals.{both, clash}
 use Rattle.cube.proofs.Sets.{Down, down-out, has-head, has-other}
 use Rattle.boards.proofs.Every.{every-at, every-step}
-
--- the set of the places below n that f tells
-unfoldable pub setOf : (ℕ → Bool) → ℕ → List ℕ
-setOf f zero = []
-setOf f (suc n) = pick (f n) (n ∷ setOf f n) (setOf f n)
 
 -- 1 if f tells any of the m places from d on, else 0
 unfoldable pub any : (ℕ → Bool) → ℕ → ℕ → ℕ
@@ -51,7 +46,7 @@ same-differ′ Y Z e p q = by (same Y Z) (λ t. clash (sym q ∙ ap (λ Y. has Y
 
 -- ---- counting
 
-finishes-append : (Y : List ℕ) (a b : List TreeStep) → finishes Y (a ++ b) ≡ finishes Y a + finishes Y b
+pub finishes-append : (Y : List ℕ) (a b : List TreeStep) → finishes Y (a ++ b) ≡ finishes Y a + finishes Y b
 unfolding finishes
 finishes-append Y [] b = sym (zero-add _)
 finishes-append Y (s ∷ a) b = ap (λ n. pick (finishesIt Y s) 1 0 + n) (finishes-append Y a b) ∙ sym (add-assoc (pick (finishesIt Y s) 1 0) (finishes Y a) (finishes Y b))

@@ -17,11 +17,12 @@ use Rattle.boards.specs.Steps.{TreeStep, finish, transfers, visit, walk,
 use Rattle.boards.specs.Held.{own, heldAfter, held}
 use Rattle.boards.proofs.Boards.{label-lt}
 use Rattle.boards.proofs.Begun.{fits, some-expands, over-alike}
-use Rattle.boards.proofs.Alive.{into, visited, heldWalk, held-walk, over-none}
+use Rattle.boards.specs.Finding.{into, visited, heldWalk}
+use Rattle.boards.proofs.Alive.{held-walk, over-none}
 
 module _ (g : Grid) (b : ℕ) where
   -- a visit has one step at least past its walk
-  visit-longer : (Y : List ℕ) (m : ℕ) (inner : List TreeStep) → length inner < length (visit Y m inner)
+  pub visit-longer : (Y : List ℕ) (m : ℕ) (inner : List TreeStep) → length inner < length (visit Y m inner)
   visit-longer Y zero inner = rw length-append (omega arith)
   visit-longer Y (suc m) inner = let q = length-append inner (finish Y ∷ []) in omega arith
 

@@ -8,6 +8,12 @@ pub mod Moving
 pub mod Counting
 pub mod Tallies
 pub mod Tallied
+pub mod Planned
+pub mod Found
+pub mod Leading
+pub mod Seeking
+pub mod Keeping
+pub mod Refusing
 pub mod Listed
 pub mod Cases
 pub mod Begun
@@ -15,3 +21,4 @@ pub mod Alive
 pub mod Holding
 pub mod Claim
 pub mod Around
+pub mod Ordering

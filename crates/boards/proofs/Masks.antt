@@ -20,18 +20,18 @@ use Rattle.cube.proofs.Counting.{kept-length, summed-length}
 use Rattle.cube.proofs.Sets.{Down}
 use Rattle.planner.specs.Plans.{PlanLists, Sound, lengthAt, find}
 use Rattle.planner.proofs.Orders.{rank-order, product-order}
-use Rattle.boards.specs.Grids.{Grid, Lawful, gridOf, maskOf}
+use Rattle.boards.specs.Grids.{Grid, Lawful, gridOf, maskOf, setOf, summedBy}
 use Rattle.boards.specs.Steps.{TreeStep, expand, transfer, finish, finishesMask, timesFinished, steps}
 use Rattle.boards.specs.Held.{same, finishesIt, finishes}
 use Rattle.boards.proofs.Lawful.{grid-lawful}
 use Rattle.boards.proofs.Every.{Every, every-step}
-use Rattle.boards.proofs.Finishing.{setOf, any, set-has, set-cong, down-set, any-none, any-cases, same-true, same-refl, finished-once}
+use Rattle.boards.proofs.Finishing.{any, set-has, set-cong, down-set, any-none, any-cases, same-true, same-refl, finished-once}
 
 pick-not : (t : Bool) (x : ℕ) → pick t 0 x ≡ pick (not t) x 0
 pick-not true x = refl
 pick-not false x = refl
 
-not-not : (t : Bool) → not (not t) ≡ t
+pub not-not : (t : Bool) → not (not t) ≡ t
 not-not true = refl
 not-not false = refl
 
@@ -44,65 +44,61 @@ module _ (g : Grid) (ok : Lawful g) where
   pub keeps-mask : (Y : List ℕ) (a : ℕ) → a < g .axes → keeps (maskOf g Y) a ≡ not (has Y (g .rank a))
   keeps-mask Y a h = rw (mask-powers Y) (keeps-powers (λ a. not (has Y (g .rank a))) (g .axes) a h)
 
-  -- the set of a mask
-  pub summedBy : ℕ → ℕ → Bool
-  summedBy mask d = not (keeps mask (g .order d))
-
-  pub mask-set : (mask : ℕ) → mask < 2 ^ g .axes → maskOf g (setOf (summedBy mask) (g .axes)) ≡ mask
+  pub mask-set : (mask : ℕ) → mask < 2 ^ g .axes → maskOf g (setOf (summedBy g mask) (g .axes)) ≡ mask
   mask-set mask h =
-      mask-powers (setOf (summedBy mask) (g .axes)) ∙ powers-cong _ (keeps mask) (g .axes) digit ∙ powers-mod mask (g .axes) ∙ mod-eq-of-lt h
+      mask-powers (setOf (summedBy g mask) (g .axes)) ∙ powers-cong _ (keeps mask) (g .axes) digit ∙ powers-mod mask (g .axes) ∙ mod-eq-of-lt h
     where
-      digit : (a : ℕ) → a < g .axes → not (has (setOf (summedBy mask) (g .axes)) (g .rank a)) ≡ keeps mask a
+      digit : (a : ℕ) → a < g .axes → not (has (setOf (summedBy g mask) (g .axes)) (g .rank a)) ≡ keeps mask a
       digit a l =
-          let e : summedBy mask (g .rank a) ≡ not (keeps mask (g .order (g .rank a))) = (unfold summedBy in refl) in
-          ap not (set-has (summedBy mask) (g .axes) (g .rank a) (ok .rank-lt a l) ∙ e) ∙ not-not (keeps mask (g .order (g .rank a))) ∙ ap (keeps mask) (ok .order-rank a l)
+          let e : summedBy g mask (g .rank a) ≡ not (keeps mask (g .order (g .rank a))) = (unfold summedBy in refl) in
+          ap not (set-has (summedBy g mask) (g .axes) (g .rank a) (ok .rank-lt a l) ∙ e) ∙ not-not (keeps mask (g .order (g .rank a))) ∙ ap (keeps mask) (ok .order-rank a l)
 
   -- and no other set has that mask
-  pub set-mask : (Z : List ℕ) (mask : ℕ) → Down Z (g .axes) → maskOf g Z ≡ mask → setOf (summedBy mask) (g .axes) ≡ Z
-  set-mask Z mask h e = set-cong (summedBy mask) (has Z) (g .axes) (λ d l. place d l) ∙ down-set Z (g .axes) h
+  pub set-mask : (Z : List ℕ) (mask : ℕ) → Down Z (g .axes) → maskOf g Z ≡ mask → setOf (summedBy g mask) (g .axes) ≡ Z
+  set-mask Z mask h e = set-cong (summedBy g mask) (has Z) (g .axes) (λ d l. place d l) ∙ down-set Z (g .axes) h
     where
-      place : (d : ℕ) → d < g .axes → summedBy mask d ≡ has Z d
+      place : (d : ℕ) → d < g .axes → summedBy g mask d ≡ has Z d
       place d l =
           unfold summedBy in
           ap (λ m. not (keeps m (g .order d))) (sym e) ∙ ap not (keeps-mask Z (g .order d) (ok .order-lt d l)) ∙ not-not _ ∙ ap (has Z) (ok .rank-order d l)
 
-  same-mask : (Z : List ℕ) (mask : ℕ) → mask < 2 ^ g .axes → Down Z (g .axes) → eqb (maskOf g Z) mask ≡ same (setOf (summedBy mask) (g .axes)) Z
+  same-mask : (Z : List ℕ) (mask : ℕ) → mask < 2 ^ g .axes → Down Z (g .axes) → eqb (maskOf g Z) mask ≡ same (setOf (summedBy g mask) (g .axes)) Z
   same-mask Z mask l h =
       by (eqb (maskOf g Z) mask)
       (λ t. t ∙ sym (rw (set-mask Z mask h (eqb-true _ _ t)) (same-refl Z)))
-      (λ t. t ∙ sym (by (same (setOf (summedBy mask) (g .axes)) Z) (λ s. absurd (eqb-false _ _ t (ap (maskOf g) (sym (same-true _ Z s)) ∙ mask-set mask l))) (λ s. s)))
+      (λ t. t ∙ sym (by (same (setOf (summedBy g mask) (g .axes)) Z) (λ s. absurd (eqb-false _ _ t (ap (maskOf g) (sym (same-true _ Z s)) ∙ mask-set mask l))) (λ s. s)))
 
   abbrev Shape : TreeStep → Type 0
   Shape (expand Y) = Unit {0}
   Shape (transfer Y s r n) = Unit {0}
   Shape (finish Y) = Down Y (g .axes)
 
-  times-finishes : (mask : ℕ) → mask < 2 ^ g .axes → (l : List TreeStep) → Every Shape l → timesFinished g mask l ≡ finishes (setOf (summedBy mask) (g .axes)) l
+  times-finishes : (mask : ℕ) → mask < 2 ^ g .axes → (l : List TreeStep) → Every Shape l → timesFinished g mask l ≡ finishes (setOf (summedBy g mask) (g .axes)) l
   unfolding timesFinished finishes
   times-finishes mask h [] e = refl
   times-finishes mask h (m ∷ l) e = ap₂ _+_ (one m (e .0)) (times-finishes mask h l (e .1))
     where
-      one : (m : TreeStep) → Shape m → finishesMask g mask m ≡ pick (finishesIt (setOf (summedBy mask) (g .axes)) m) 1 0
+      one : (m : TreeStep) → Shape m → finishesMask g mask m ≡ pick (finishesIt (setOf (summedBy g mask) (g .axes)) m) 1 0
       one (expand Y) s = refl
       one (transfer Y s r n) t = refl
       one (finish Y) s = ap (λ t. pick t 1 0) (same-mask Y mask h s)
 
-  times-any : (mask : ℕ) → mask < 2 ^ g .axes → timesFinished g mask (steps g) ≡ any (summedBy mask) (g .axes) 0
+  times-any : (mask : ℕ) → mask < 2 ^ g .axes → timesFinished g mask (steps g) ≡ any (summedBy g mask) (g .axes) 0
   times-any mask h =
-      times-finishes mask h (steps g) (every-step Shape g (λ Y h. tt) (λ Y s r n h. tt) (λ Y h. h)) ∙ finished-once g (summedBy mask)
+      times-finishes mask h (steps g) (every-step Shape g (λ Y h. tt) (λ Y s r n h. tt) (λ Y h. h)) ∙ finished-once g (summedBy g mask)
 
-  root-mask : maskOf g [] ≡ fullMask (g .axes)
+  pub root-mask : maskOf g [] ≡ fullMask (g .axes)
   root-mask = mask-powers [] ∙ powers-cong (λ a. not (has [] (g .rank a))) (λ a. true) (g .axes) all ∙ powers-all (g .axes)
     where
       all : (a : ℕ) → a < g .axes → not (has [] (g .rank a)) ≡ true
       all a h = unfold has in refl
 
   -- a mask below the full one sums something out
-  some-summed : (mask : ℕ) → mask < fullMask (g .axes) → any (summedBy mask) (g .axes) 0 ≡ 1
+  some-summed : (mask : ℕ) → mask < fullMask (g .axes) → any (summedBy g mask) (g .axes) 0 ≡ 1
   some-summed mask h =
-      any-cases (summedBy mask) (g .axes) 0
+      any-cases (summedBy g mask) (g .axes) 0
       (λ z.
-      let e : setOf (summedBy mask) (g .axes) ≡ [] = any-none (summedBy mask) (g .axes) 0 (g .axes) (zero-add _) z ∙ (unfold setOf in refl) in
+      let e : setOf (summedBy g mask) (g .axes) ≡ [] = any-none (summedBy g mask) (g .axes) 0 (g .axes) (zero-add _) z ∙ (unfold setOf in refl) in
       let q : mask ≡ fullMask (g .axes) = sym (mask-set mask (below mask h)) ∙ ap (maskOf g) e ∙ root-mask in
       absurd (omega arith))
       (λ z. z)
@@ -115,8 +111,8 @@ module _ (g : Grid) (ok : Lawful g) where
   none-any f zero d n e h = refl
   none-any f (suc m) d n e h = rw (h d (omega arith)) (none-any f m (d + 1) n (omega arith) h)
 
-  none-summed : any (summedBy (fullMask (g .axes))) (g .axes) 0 ≡ 0
-  none-summed = none-any (summedBy (fullMask (g .axes))) (g .axes) 0 (g .axes) (zero-add _) (λ d h. unfold summedBy in ap not (keeps-full (g .axes) (g .order d) (ok .order-lt d h)))
+  none-summed : any (summedBy g (fullMask (g .axes))) (g .axes) 0 ≡ 0
+  none-summed = none-any (summedBy g (fullMask (g .axes))) (g .axes) 0 (g .axes) (zero-add _) (λ d h. unfold summedBy in ap not (keeps-full (g .axes) (g .order d) (ok .order-lt d h)))
 
   -- EACH CHOICE BUT THE FULL ONE IS FINISHED EXACTLY ONCE, and the full one never.
   pub finished-exactly-once : (mask : ℕ) → mask < fullMask (g .axes) → timesFinished g mask (steps g) ≡ 1

@@ -16,7 +16,7 @@ use Rattle.planner.specs.Accepted.{Accepted}
 use Rattle.planner.proofs.PricingLaws.{along, few-axes}
 use Rattle.boards.specs.Grids.{Grid, Lawful, gridOf, boards}
 use Rattle.boards.specs.Steps.{steps, walk}
-use Rattle.boards.specs.Counts.{span, ways, sendings, marks, walkCount}
+use Rattle.boards.specs.Counts.{span, labellings, sendings, marks, walkCount}
 use Rattle.boards.proofs.Lawful.{grid-lawful}
 use Rattle.boards.proofs.Counting.{board-count, steps-length}
 use Rattle.boards.proofs.Tallies.{walk-count}
@@ -73,31 +73,37 @@ steps-walk : (g : Grid) → length (steps g) ≡ suc (length (walk g (g .axes) 0
 unfolding steps
 steps-walk g = refl
 
-ways-none : (g : Grid) → ways g 0 [] ≡ 1
-unfolding ways product
-ways-none g = refl
+pub labellings-none : (g : Grid) → labellings g 0 [] ≡ 1
+unfolding labellings product
+labellings-none g = refl
 
-count-one : (g : Grid) (n : ℕ) → walkCount g n 0 1 ≡ sendings g n 0 + marks n
-unfolding walkCount
-count-one g n = omega arith
+all-count : (g : Grid) (n : ℕ) → g .axes ≡ n → walkCount g (g .axes) 0 (labellings g 0 []) ≡ walkCount g n 0 1
+all-count g n e = ap₂ (λ m x. walkCount g m 0 x) e (labellings-none g)
 
-all-count : (g : Grid) (n : ℕ) → g .axes ≡ n → walkCount g (g .axes) 0 (ways g 0 []) ≡ sendings g n 0 + marks n
-all-count g n e = ap₂ (λ m x. walkCount g m 0 x) e (ways-none g) ∙ count-one g n
+-- counts that are no more than boards times choices times labellings
+pub count-fits : (s n m : ℕ) → s ≤ 262144 → n ≤ 1024 → m ≤ 512 → s * n + m < 4294967296
+count-fits s n m a b c = let p = mul-le-mul {n₁ = s} {m₁ = n} {n₂ = 262144} {m₂ = 1024} a b in omega arith
+
+pub sent-fits : (n k r : ℕ) → n ≤ 1024 → k ≤ 1024 → r ≤ 1024 → n * k * r < 4294967296
+sent-fits n k r a b c =
+    let p = mul-le-mul {n₁ = n} {m₁ = k} {n₂ = 1024} {m₂ = 1024} a b in
+    let s = mul-le-mul {n₁ = n * k} {m₁ = r} {n₂ = 1048576} {m₂ = 1024} p c in
+    omega arith
 
 -- ---- an accepted plan
 
 module _ (q : Plan) (ok : Accepted q) where
-  lawful : Lawful (gridOf (listsOf q))
+  pub lawful : Lawful (gridOf (listsOf q))
   lawful = grid-lawful (listsOf q) (ok .sound)
 
-  axes-same : gridOf (listsOf q) .axes ≡ q .axes
+  pub axes-same : gridOf (listsOf q) .axes ≡ q .axes
   axes-same = unfold gridOf in ok .axes
 
   pub parts-slot : (d : ℕ) → d < q .axes → 2 ^ getD (q .exponents) (getD (q .order) d 0) 0 ≡ gridOf (listsOf q) .parts d
   unfolding gridOf listsOf
   parts-slot d h = ap (λ k. 2 ^ k) (along q ok (q .exponents) d h)
 
-  boards-few : boards (gridOf (listsOf q)) ≤ 1024
+  pub boards-few : boards (gridOf (listsOf q)) ≤ 1024
   boards-few = rw (board-count (listsOf q) (ok .sound)) (unfold boardCount listsOf in pow-mono {j = 10} (ok .boards))
 
   pub parts-small : (d : ℕ) → d < q .axes → (1 ≤ gridOf (listsOf q) .parts d) × (gridOf (listsOf q) .parts d ≤ 1024)
@@ -135,7 +141,7 @@ module _ (q : Plan) (ok : Accepted q) where
       omega arith
 
   -- T
-  pub steps-same : stepCount (listsOf q) ≡ sendings (gridOf (listsOf q)) (q .axes - 0) 0 + marks (q .axes) + 1
+  pub steps-same : stepCount (listsOf q) ≡ walkCount (gridOf (listsOf q)) (q .axes - 0) 0 1 + 1
   steps-same =
       let l = steps-length (listsOf q) (ok .sound) (ok .lengths .axes) in
       let s = steps-walk (gridOf (listsOf q)) in

@@ -1,12 +1,15 @@
 -- What the step count and held answer, their refusals, and what the step enum tells.
 use Prim.Native.Nat.{ℕ, _^_}
 use mathlib.Core.Bool.{Bool, _||_}
+use mathlib.Core.Option.{Option, none, some}
 use mathlib.Core.List.{List, [], _∷_, _++_}
 use lib.Dec.{ltb, leb}
+use lib.ListN.{getElem?}
 use Rattle.cube.specs.Checks.{Check, check, first, Reply, gives, refuses, answered}
 use Rattle.planner.specs.Plans.{PlanLists, boardCount, stepCount, listsOf}
 use Rattle.planner.specs.Refusals.{planChecks, planRefusal}
 use Rattle.planner.specs.declared.types.Plan.{Plan}
+use Rattle.boards.specs.declared.types.Transfer.{Transfer}
 use Rattle.boards.specs.declared.types.Step.{Step}
 use Rattle.boards.specs.declared.types.Step.the-variants as Step′
 use Rattle.boards.specs.declared.types.Held.{Held}
@@ -28,9 +31,12 @@ pub data Told : Type 0 where
   done : Told
   refused : ℕ → Told
 
+abbrev pub toldOf : Transfer → Told
+toldOf t = transfers (t .sender) (t .receiver) (t .choice .mask) (t .values)
+
 abbrev pub told : Step → Told
 told (Step′.Expand c) = expands (c .mask)
-told (Step′.Transfer t) = transfers (t .sender) (t .receiver) (t .choice .mask) (t .values)
+told (Step′.Transfer t) = toldOf t
 told (Step′.Finish c) = finishes (c .mask)
 told Step′.Done = done
 told (Step′.Refused n) = refused n
@@ -40,6 +46,14 @@ abbrev pub telling : Grid → TreeStep → Told
 telling g (expand Y) = expands (maskOf g Y)
 telling g (transfer Y s r n) = transfers s r (maskOf g Y) n
 telling g (finish Y) = finishes (maskOf g Y)
+
+abbrev pub tellingOr : Grid → Option TreeStep → Told
+tellingOr g none = done
+tellingOr g (some m) = telling g m
+
+-- and at a position of a list: done at its end and past it
+unfoldable pub toldAt : Grid → List TreeStep → ℕ → Told
+toldAt g l at = tellingOr g (getElem? l at)
 
 -- ---- the checks that concern positions and boards
 

@@ -5,15 +5,15 @@ use Rattle.cube.specs.Boxes.{product}
 use Rattle.cube.specs.Tree.{kept}
 use Rattle.boards.specs.Grids.{Grid}
 
--- the ways to label the m axes from d on
+-- the labellings of the m axes from d on
 unfoldable pub span : Grid → ℕ → ℕ → ℕ
 span g m d = product (g .parts) m d
 
--- the ways to label the axes before d that Y keeps
-unfoldable pub ways : Grid → ℕ → List ℕ → ℕ
-ways g d Y = product (kept Y (g .parts)) d 0
+-- the labellings of the axes before d that Y keeps
+unfoldable pub labellings : Grid → ℕ → List ℕ → ℕ
+labellings g d Y = product (kept Y (g .parts)) d 0
 
--- the transfers of a walk over the m axes from d on, for each of those ways
+-- the transfers of a walk over the m axes from d on, for each of those labellings
 unfoldable pub sendings : Grid → ℕ → ℕ → ℕ
 sendings g zero d = 0
 sendings g (suc m) d = sendings g m (d + 1) * (g .parts d + 1) + span g m (d + 1) * (g .parts d - 1)
@@ -24,4 +24,4 @@ marks zero = 0
 marks (suc m) = 2 ^ suc m - 1 + (2 ^ m - 1)
 
 unfoldable pub walkCount : Grid → ℕ → ℕ → ℕ → ℕ
-walkCount g m d ways = sendings g m d * ways + marks m
+walkCount g m d n = sendings g m d * n + marks m

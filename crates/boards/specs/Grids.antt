@@ -1,11 +1,12 @@
 -- A plan's grid of boards: portions, labels, extents, and where cells stand in the work area. Axes go by their place in the plan.
 use Prim.Native.Nat.{ℕ, zero, suc, _+_, _-_, _*_, _/_, _%_, _^_, _≤_, _<_}
 use mathlib.Core.Path.{_≡_}
-use mathlib.Core.Bool.{Bool, true, _&&_}
+use mathlib.Core.Bool.{Bool, true, _&&_, not}
 use mathlib.Core.List.{List, [], _∷_}
 use lib.Dec.{eqb, ltb}
 use lib.ListN.{length}
 use Rattle.cube.specs.Boxes.{pick, sumN, put, product, place, position}
+use Rattle.cube.specs.Choices.{keeps}
 use Rattle.cube.specs.Portions.{portionStart}
 use Rattle.cube.specs.Tree as Tree
 use Rattle.cube.specs.Tree.{has, kept, lastOf}
@@ -51,6 +52,17 @@ pub record Lawful (g : Grid) : Type 0 where
 unfoldable pub maskOf : Grid → List ℕ → ℕ
 maskOf g Y = sumN (g .axes) (λ a. pick (has Y (g .rank a)) 0 (2 ^ a))
 
+-- the set of the places below n that f tells, and the set that a mask sums out
+unfoldable pub setOf : (ℕ → Bool) → ℕ → List ℕ
+setOf f zero = []
+setOf f (suc n) = pick (f n) (n ∷ setOf f n) (setOf f n)
+
+unfoldable pub summedBy : Grid → ℕ → ℕ → Bool
+summedBy g mask d = not (keeps mask (g .order d))
+
+unfoldable pub summed : Grid → ℕ → List ℕ
+summed g mask = setOf (summedBy g mask) (g .axes)
+
 -- ---- boards
 
 -- as many as there are ways to label the axes
@@ -61,9 +73,13 @@ boards g = product (g .parts) (g .axes) 0
 unfoldable pub label : Grid → ℕ → ℕ → ℕ
 label g b d = position (g .parts) (g .axes) 0 b d
 
+-- and back: the board with the labels x
+unfoldable pub boardWith : Grid → (ℕ → ℕ) → ℕ
+boardWith g x = place (g .parts) x (g .axes) 0
+
 -- the board with b's labels but for l on axis j
 unfoldable pub withLabel : Grid → ℕ → ℕ → ℕ → ℕ
-withLabel g b j l = place (g .parts) (put (label g b) j l) (g .axes) 0
+withLabel g b j l = boardWith g (put (label g b) j l)
 
 -- a lead of Y has "label 0 on every axis the choice sums out"
 unfoldable pub lead : Grid → List ℕ → ℕ → Bool

@@ -2,5 +2,6 @@ pub mod Grids
 pub mod Steps
 pub mod Held
 pub mod Counts
+pub mod Finding
 pub mod Answers
 pub mod Computing

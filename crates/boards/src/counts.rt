@@ -1,10 +1,10 @@
 // How many steps a plan's list has, and a walk over some of its axes.
 ghost use mathlib.Core.Path.{_≡_};
 ghost use Prim.Native.Nat.{ℕ, _+_, _-_, _*_, _^_, _≤_, _<_};
-ghost use Rattle.planner.specs.Plans.{listsOf};
+ghost use Rattle.planner.specs.Plans.{listsOf, stepCount};
 ghost use Rattle.planner.specs.Refusals.{planRefusal};
-ghost use Rattle.boards.specs.Grids.{gridOf};
-ghost use Rattle.boards.specs.Counts.{span, sendings, marks};
+ghost use Rattle.boards.specs.Counts.{span, sendings, marks, walkCount};
+ghost use Rattle.boards.specs.Finding.{planGrid};
 ghost use Rattle.boards.specs.Answers.{countedReply, counting};
 use crate::types::Counted;
 use planner::checks::plan_refusal;
@@ -17,9 +17,9 @@ pub struct Tally {
 }
 
 // Into how many portions the axis at place d is cut.
-fn parts_of(plan: Plan, d: usize) -> u64
+pub fn parts_of(plan: Plan, d: usize) -> u64
     requires { ⌜ (planRefusal plan ≡ 0) × (d < plan .axes) ⌝ }
-    ensures { λ r. ⌜ (r ≡ gridOf (listsOf plan) .parts d) × (1 ≤ r) × (r ≤ 1024) ⌝ }
+    ensures { λ r. ⌜ (r ≡ planGrid plan .parts d) × (1 ≤ r) × (r ≤ 1024) ⌝ }
 {
     let axis = plan.order[d] as usize;
     1u64 << plan.exponents[axis]
@@ -28,7 +28,7 @@ fn parts_of(plan: Plan, d: usize) -> u64
 // Over the axes from place d on.
 fn tally_from(plan: Plan, d: usize) -> Tally
     requires { ⌜ (planRefusal plan ≡ 0) × (d ≤ plan .axes) ⌝ }
-    ensures { λ r. ⌜ (r .span ≡ span (gridOf (listsOf plan)) (plan .axes - d) d) × (r .sent ≡ sendings (gridOf (listsOf plan)) (plan .axes - d) d) × (r .span ≤ 1024) × (r .sent ≤ 262144) ⌝ }
+    ensures { λ r. ⌜ (r .span ≡ span (planGrid plan) (plan .axes - d) d) × (r .sent ≡ sendings (planGrid plan) (plan .axes - d) d) × (r .span ≤ 1024) × (r .sent ≤ 262144) ⌝ }
 {
     if d == plan.axes as usize {
         return Tally { span: 1, sent: 0 };
@@ -42,7 +42,7 @@ fn tally_from(plan: Plan, d: usize) -> Tally
 }
 
 // The finishes and the expansions of a walk over m axes.
-fn marks_of(m: usize) -> u64
+pub fn marks_of(m: usize) -> u64
     requires { ⌜ m ≤ 8 ⌝ }
     ensures { λ r. ⌜ (r ≡ marks m) × (r ≤ 512) ⌝ }
 {
@@ -50,6 +50,35 @@ fn marks_of(m: usize) -> u64
         return 0;
     }
     ((1u64 << m) - 1) + ((1u64 << (m - 1)) - 1)
+}
+
+// The steps of the walk over the axes from place d on, of a choice whose kept axes before d have n labellings.
+pub fn walk_count(plan: Plan, d: usize, n: u64) -> u64
+    requires { ⌜ (planRefusal plan ≡ 0) × (d ≤ plan .axes) × (n ≤ 1024) ⌝ }
+    ensures { λ r. ⌜ (r ≡ walkCount (planGrid plan) (plan .axes - d) d n) × (r < 2 ^ 32) ⌝ }
+{
+    let all = tally_from(plan, d);
+    let others = marks_of(plan.axes as usize - d);
+    all.sent * n + others
+}
+
+// The transfers of the child that sums out the axis at place d.
+pub fn transfer_count(plan: Plan, d: usize, n: u64) -> u64
+    requires { ⌜ (planRefusal plan ≡ 0) × (d < plan .axes) × (n ≤ 1024) ⌝ }
+    ensures { λ r. ⌜ (r ≡ n * span (planGrid plan) (plan .axes - (d + 1)) (d + 1) * (planGrid plan .parts d - 1)) × (r < 2 ^ 32) ⌝ }
+{
+    let parts = parts_of(plan, d);
+    let after = tally_from(plan, d + 1);
+    n * after.span * (parts - 1)
+}
+
+// T, of a plan that no check refuses.
+pub fn steps_of(plan: Plan) -> u64
+    requires { ⌜ planRefusal plan ≡ 0 ⌝ }
+    ensures { λ r. ⌜ r ≡ stepCount (listsOf plan) ⌝ }
+{
+    let others = walk_count(plan, 0, 1);
+    others + 1
 }
 
 // The public entry: T, or the plan's refusal.
@@ -60,7 +89,5 @@ pub fn step_count(plan: Plan) -> Counted
     if refusal != 0 {
         return Counted::Refused(refusal);
     }
-    let all = tally_from(plan, 0);
-    let others = marks_of(plan.axes as usize);
-    Counted::Steps(all.sent + others + 1)
+    Counted::Steps(steps_of(plan))
 }

@@ -1,2 +1,5 @@
 pub mod counts;
+pub mod grid;
+pub mod holds;
+pub mod steps;
 pub mod types;

@@ -1,0 +1,95 @@
+// The step at a position of a plan's list, found without listing.
+ghost use mathlib.Core.Path.{_≡_};
+ghost use Prim.Native.Nat.{ℕ, _-_};
+ghost use Rattle.planner.specs.Refusals.{planRefusal};
+ghost use Rattle.boards.specs.Steps.{visit, walk, steps};
+ghost use Rattle.boards.specs.Finding.{planGrid, summedIn, found, Walking, Sending};
+ghost use Rattle.boards.specs.Answers.{told, telling, toldAt, toldOf};
+use crate::counts::parts_of;
+use crate::counts::transfer_count;
+use crate::counts::walk_count;
+use crate::grid::board_of;
+use crate::grid::cells_with;
+use crate::grid::lead_labels;
+use crate::types::Step;
+use crate::types::Transfer;
+use cube::types::Choice;
+use planner::types::Plan;
+
+// The transfer at a position among those of a choice whose last summed axis is at place d.
+pub fn sending(plan: Plan, choice: Choice, d: usize, at: u64) -> Transfer
+    requires { ⌜ Sending plan (choice .mask) d at ⌝ }
+    ensures { λ r. ⌜ toldOf r ≡ telling (planGrid plan) (found (planGrid plan) (summedIn plan (choice .mask)) at) ⌝ }
+{
+    let parts = parts_of(plan, d);
+    let others = parts - 1;
+    let mut labels = lead_labels(plan, choice, at / others);
+    let receiver = board_of(plan, labels);
+    labels[d] = at % others + 1;
+    let sender = board_of(plan, labels);
+    let values = cells_with(plan, choice, labels);
+    Transfer {
+        sender: sender as u32,
+        receiver: receiver as u32,
+        choice,
+        values,
+    }
+}
+
+// The step at a position of the walk over the children of a choice from place d on, taken from right to left: the later children, then the transfers
+// of the child that sums out the axis at d, then its visit. The axes before d that the choice keeps have n labellings.
+pub fn walk(plan: Plan, choice: Choice, d: usize, n: u64, at: u64) -> Step
+    requires { ⌜ Walking plan (choice .mask) d n ⌝ }
+    ensures { λ r. ⌜ told r ≡ toldAt (planGrid plan) (walk (planGrid plan) (plan .axes - d) d (summedIn plan (choice .mask))) at ⌝ }
+{
+    if d == plan.axes as usize {
+        return Step::Done;
+    }
+    let more = n * parts_of(plan, d);
+    let later = walk_count(plan, d + 1, more);
+    if at < later {
+        return walk(plan, choice, d + 1, more, at);
+    }
+    let child = choice.without(plan.order[d]);
+    let sent = transfer_count(plan, d, n);
+    if at - later < sent {
+        return Step::Transfer(sending(plan, child, d, at - later));
+    }
+    visit(plan, child, d + 1, n, at - later - sent)
+}
+
+// The step at a position of the visit of a choice whose children begin at place d: it is expanded if it has any, and finished after them.
+pub fn visit(plan: Plan, choice: Choice, d: usize, n: u64, at: u64) -> Step
+    requires { ⌜ Walking plan (choice .mask) d n ⌝ }
+    ensures { λ r. ⌜ told r ≡ toldAt (planGrid plan) (visit (summedIn plan (choice .mask)) (plan .axes - d) (walk (planGrid plan) (plan .axes - d) d (summedIn plan (choice .mask)))) at ⌝ }
+{
+    if d == plan.axes as usize {
+        if at == 0 {
+            return Step::Finish(choice);
+        }
+        return Step::Done;
+    }
+    if at == 0 {
+        return Step::Expand(choice);
+    }
+    let below = walk_count(plan, d, n);
+    if at - 1 < below {
+        return walk(plan, choice, d, n, at - 1);
+    }
+    if at - 1 == below {
+        return Step::Finish(choice);
+    }
+    Step::Done
+}
+
+// The step at a position of the whole list, done at its end and past it.
+pub fn step_at(plan: Plan, at: u64) -> Step
+    requires { ⌜ planRefusal plan ≡ 0 ⌝ }
+    ensures { λ r. ⌜ told r ≡ toldAt (planGrid plan) (steps (planGrid plan)) at ⌝ }
+{
+    let root = Choice::full(plan.axes);
+    if at == 0 {
+        return Step::Expand(root);
+    }
+    walk(plan, root, 0, 1, at - 1)
+}
