@@ -5,13 +5,13 @@ use mathlib.Core.Path.{_≡_, sym, ap, _∙_}
 use Rattle.cube.specs.Checks.{gives}
 use Rattle.planner.specs.Plans.{listsOf, boardCount}
 use Rattle.planner.proofs.PricingLaws.{shifted}
 use Rattle.boards.specs.Grids.{boards}
 use Rattle.boards.specs.Finding.{planGrid}
 use Rattle.boards.proofs.Counting.{board-count}
 use Rattle.boards.proofs.Refusing.{held-due, held-past, held-outside, held-given, boards-shifted}
 use borrow.Author.Needs.{needs}
-use Rattle.boards.proofs.holds.held.Statement.{statement}
-use Rattle.boards.proofs.holds.held.Tie as tie
+use Rattle.rack.proofs.holds.held.Statement.{statement}
+use Rattle.rack.proofs.holds.held.Tie as tie
 
 -- src/holds.rt:77:9
 plan-refusal-requires : tie.Need-plan-refusal-requires

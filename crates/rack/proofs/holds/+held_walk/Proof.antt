@@ -4,21 +4,21 @@ use borrow.Author.Needs.{needs}
 use mathlib.Core.Path.{_≡_, ap₂, _∙_}
 use Prim.Native.Nat.{ℕ, _+_, _-_, _<_}
 use Rattle.planner.proofs.PricingLaws.{few-axes}
 use Rattle.boards.specs.Finding.{planGrid, summedIn}
 use Rattle.boards.proofs.Seeking.{few, kept-on, summed-out, forming}
 use Rattle.boards.proofs.Keeping.{bound, bound-own, no-child, later-held, sends-held, leaf-held, past-held, inner-held}
 use borrow.Fn.Kinds.{In}
 use borrow.Fn.PlainCycle.{Measures, is, falls, and}
-use Rattle.boards.proofs.holds.held_walk.Reads as held-walk
-use Rattle.boards.proofs.holds.held_walk.Kinds as held-walk-kinds
-use Rattle.boards.proofs.holds.+held_walk.Lts-held_walk as held-walk-lts
+use Rattle.rack.proofs.holds.held_walk.Reads as held-walk
+use Rattle.rack.proofs.holds.held_walk.Kinds as held-walk-kinds
+use Rattle.rack.proofs.holds.+held_walk.Lts-held_walk as held-walk-lts
 use Rattle.boards.proofs.counts.parts_of.Reads as parts-of-reads
 use Rattle.boards.proofs.counts.transfer_count.Reads as transfer-count-reads
 use Rattle.boards.proofs.counts.walk_count.Reads as walk-count-reads
-use Rattle.boards.proofs.holds.own_of.Reads as own-of-reads
+use Rattle.rack.proofs.holds.own_of.Reads as own-of-reads
 use Rattle.cube.proofs.types.Choice.without.Reads as without-reads
-use Rattle.boards.proofs.holds.+held_walk.{statement}
-use Rattle.boards.proofs.holds.+held_walk.Tie.{close}
+use Rattle.rack.proofs.holds.+held_walk.{statement}
+use Rattle.rack.proofs.holds.+held_walk.Tie.{close}
 
 abbrev μ-held-walk : Measures 0 held-walk-kinds.ps ℕ
 μ-held-walk κs a = a .0 .axes - a .1 .1 .0

@@ -4,22 +4,22 @@ use borrow.Author.Needs.{needs}
 use mathlib.Core.Path.{_≡_, sym, _∙_}
 use Prim.Native.Nat.{ℕ, _+_, _-_, _<_}
 use Rattle.planner.proofs.PricingLaws.{few-axes}
 use Rattle.boards.proofs.Seeking.{few, kept-on, summed-out, sending, leaf-finish, leaf-done, visit-first, visit-walks, visit-last, visit-past, walk-done, walk-later, walk-sends, walk-visits}
 use borrow.Fn.Kinds.{In}
 use borrow.Fn.PlainCycle.{Measures, is, falls, and}
-use Rattle.boards.proofs.steps.visit.Reads as visit
-use Rattle.boards.proofs.steps.visit.Kinds as visit-kinds
-use Rattle.boards.proofs.steps.+visit+walk.Lts-visit as visit-lts
-use Rattle.boards.proofs.steps.walk.Reads as walk
-use Rattle.boards.proofs.steps.walk.Kinds as walk-kinds
-use Rattle.boards.proofs.steps.+visit+walk.Lts-walk as walk-lts
+use Rattle.rack.proofs.steps.visit.Reads as visit
+use Rattle.rack.proofs.steps.visit.Kinds as visit-kinds
+use Rattle.rack.proofs.steps.+visit+walk.Lts-visit as visit-lts
+use Rattle.rack.proofs.steps.walk.Reads as walk
+use Rattle.rack.proofs.steps.walk.Kinds as walk-kinds
+use Rattle.rack.proofs.steps.+visit+walk.Lts-walk as walk-lts
 use Rattle.boards.proofs.counts.parts_of.Reads as parts-of-reads
 use Rattle.boards.proofs.counts.transfer_count.Reads as transfer-count-reads
 use Rattle.boards.proofs.counts.walk_count.Reads as walk-count-reads
-use Rattle.boards.proofs.steps.sending.Reads as sending-reads
+use Rattle.rack.proofs.steps.sending.Reads as sending-reads
 use Rattle.cube.proofs.types.Choice.without.Reads as without-reads
-use Rattle.boards.proofs.steps.+visit+walk.{statement}
-use Rattle.boards.proofs.steps.+visit+walk.Tie.{close}
+use Rattle.rack.proofs.steps.+visit+walk.{statement}
+use Rattle.rack.proofs.steps.+visit+walk.Tie.{close}
 
 abbrev μ-visit : Measures 0 visit-kinds.ps ℕ
 μ-visit κs a = (a .0 .axes - a .1 .1 .0) + (a .0 .axes - a .1 .1 .0) + 1

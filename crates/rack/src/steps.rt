@@ -2,17 +2,17 @@
 ghost use mathlib.Core.Path.{_≡_};
 ghost use Prim.Native.Nat.{ℕ, _-_};
 ghost use Rattle.planner.specs.Refusals.{planRefusal};
 ghost use Rattle.boards.specs.Steps.{visit, walk, steps};
 ghost use Rattle.boards.specs.Finding.{planGrid, summedIn, found, Walking, Sending};
 ghost use Rattle.boards.specs.Answers.{told, telling, toldAt, toldOf};
-use crate::counts::parts_of;
-use crate::counts::transfer_count;
-use crate::counts::walk_count;
-use crate::grid::board_of;
-use crate::grid::cells_with;
-use crate::grid::lead_labels;
-use crate::types::Step;
-use crate::types::Transfer;
+use boards::counts::parts_of;
+use boards::counts::transfer_count;
+use boards::counts::walk_count;
+use boards::grid::board_of;
+use boards::grid::cells_with;
+use boards::grid::lead_labels;
+use boards::types::Step;
+use boards::types::Transfer;
 use cube::types::Choice;
 use planner::types::Plan;
 

@@ -1,11 +1,11 @@
 use native.Mathlib.Omega.{arith}
 use mathlib.Core.Path.{refl, sym, ap, _∙_}
 use Rattle.cube.specs.Boxes.{pick}
 use Rattle.boards.specs.Held.{own}
 use Rattle.boards.proofs.Found.{own-formed, own-none}
 use borrow.Author.Needs.{needs}
-use Rattle.boards.proofs.holds.own_of.Statement.{statement}
-use Rattle.boards.proofs.holds.own_of.Tie as tie
+use Rattle.rack.proofs.holds.own_of.Statement.{statement}
+use Rattle.rack.proofs.holds.own_of.Tie as tie
 
 -- src/holds.rt:26:8
 is-lead-requires : tie.Need-is-lead-requires

@@ -1,11 +1,11 @@
 use Rattle.planner.proofs.Accepting.{passed-accepted}
 use Prim.Native.Nat.{_-_}
 use mathlib.Core.Path.{_∙_}
 use Rattle.boards.proofs.Seeking.{root-walking}
 use Rattle.boards.proofs.Keeping.{none-held, some-held}
 use borrow.Author.Needs.{needs}
-use Rattle.boards.proofs.holds.held_at.Statement.{statement}
-use Rattle.boards.proofs.holds.held_at.Tie as tie
+use Rattle.rack.proofs.holds.held_at.Statement.{statement}
+use Rattle.rack.proofs.holds.held_at.Tie as tie
 
 -- src/holds.rt:67:9
 returns : tie.Need-returns

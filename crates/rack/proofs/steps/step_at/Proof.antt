@@ -1,9 +1,9 @@
 use Rattle.planner.proofs.Accepting.{passed-accepted}
 use mathlib.Core.Path.{_∙_}
 use Rattle.boards.proofs.Seeking.{root-walking, steps-first, steps-later}
 use borrow.Author.Needs.{needs}
-use Rattle.boards.proofs.steps.step_at.Statement.{statement}
-use Rattle.boards.proofs.steps.step_at.Tie as tie
+use Rattle.rack.proofs.steps.step_at.Statement.{statement}
+use Rattle.rack.proofs.steps.step_at.Tie as tie
 
 -- src/steps.rt:90:9
 full-requires : tie.Need-full-requires

@@ -2,10 +2,10 @@ use native.Mathlib.Omega.{arith}
 use Rattle.planner.proofs.Accepting.{passed-accepted}
 use mathlib.Core.Path.{refl, sym, ap, _∙_}
 use Rattle.planner.proofs.PricingLaws.{few-axes}
 use Rattle.boards.proofs.Found.{others-some, rank-in, lead-fits, sender-fits, label-fits, sent-told}
 use borrow.Author.Needs.{needs}
-use Rattle.boards.proofs.steps.sending.Statement.{statement}
-use Rattle.boards.proofs.steps.sending.Tie as tie
+use Rattle.rack.proofs.steps.sending.Statement.{statement}
+use Rattle.rack.proofs.steps.sending.Tie as tie
 
 -- src/steps.rt:24:9
 parts-of-requires : tie.Need-parts-of-requires

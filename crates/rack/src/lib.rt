@@ -1,0 +1,2 @@
+pub mod holds;
+pub mod steps;
