@@ -1,15 +1,22 @@
 -- What holds of every step of the list: shown once for a walk, for any property of a step.
 use Prim.Native.Nat.{ℕ, zero, suc, _+_, _-_, _≤_, _<_}
-use mathlib.Core.Path.{_≡_}
+use mathlib.Core.Path.{_≡_, refl, subst}
 use mathlib.Core.Bool.{Bool, true, false}
+use mathlib.Core.Option.{Option, none, some}
 use mathlib.Core.List.{List, [], _∷_, _++_}
 use native.Mathlib.Nat.{zero-add}
 use native.Mathlib.Omega.{arith}
+use lib.ListN.{getElem?}
 use Rattle.cube.proofs.Sets.{Down, down-up}
 use Rattle.cube.specs.Boxes.{pick}
-use Rattle.cube.specs.Tree.{lastOf}
-use Rattle.boards.specs.Grids.{Grid, boards, lead}
+use Rattle.boards.specs.Grids.{Grid, boards, withLabel, lead, cells}
 use Rattle.boards.specs.Steps.{TreeStep, each, expand, finish, steps, sends, transfer, transfers, visit, walk}
+
+none-some : {s : TreeStep} → _≡_ {A = Option TreeStep} none (some s) → ⊥
+none-some e = let z : _≡_ {A = ℕ} 0 1 = cc in omega arith
+
+some-same : {r s : TreeStep} → _≡_ {A = Option TreeStep} (some r) (some s) → r ≡ s
+some-same e = cc
 
 module _ (P : TreeStep → Type 0) where
   abbrev pub Every : List TreeStep → Type 0
@@ -28,19 +35,25 @@ module _ (P : TreeStep → Type 0) where
   every-at [] s b p = p .0
   every-at (r ∷ a) s b p = every-at a s b (p .1)
 
+  pub every-get : (l : List TreeStep) (at : ℕ) (s : TreeStep) → Every l → getElem? l at ≡ some s → P s
+  every-get [] at s p e = absurd (none-some e)
+  every-get (r ∷ l) zero s p e = subst P (some-same e) (p .0)
+  every-get (r ∷ l) (suc at) s p e = every-get l at s (p .1) e
+
   every-each : (n : ℕ) (f : ℕ → List TreeStep) → ((b : ℕ) → b < n → Every (f b)) → Every (each n f)
   unfolding each
   every-each zero f h = tt
   every-each (suc n) f h = every-append (each n f) (f n) (every-each n f (λ b l. h b (omega arith))) (h n (omega arith))
 
-  module _ (g : Grid) (on-expand : (Y : List ℕ) → Down Y (g .axes) → P (expand Y)) (on-transfer : (Y : List ℕ) (s r n : ℕ) → r < boards g → P (transfer Y s r n)) (on-finish : (Y : List ℕ) → Down Y (g .axes) → P (finish Y)) where
-    every-transfers : (Y : List ℕ) → Every (transfers g Y (boards g))
+  -- a transfer is known by its choice, its lead, and the sender's label on the axis just summed
+  module _ (g : Grid) (on-expand : (Y : List ℕ) → Down Y (g .axes) → P (expand Y)) (on-transfer : (Y : List ℕ) (j b l : ℕ) → Down (j ∷ Y) (g .axes) → b < boards g → lead g (j ∷ Y) b ≡ true → suc l < g .parts j → P (transfer (j ∷ Y) (withLabel g b j (suc l)) b (cells g (j ∷ Y) (withLabel g b j (suc l))))) (on-finish : (Y : List ℕ) → Down Y (g .axes) → P (finish Y)) where
+    every-transfers : (Y : List ℕ) (j : ℕ) → Down (j ∷ Y) (g .axes) → Every (transfers g (j ∷ Y) (boards g))
     unfolding transfers sends
-    every-transfers Y = every-each (boards g) _ (λ b h. one b h (lead g Y b))
+    every-transfers Y j d = every-each (boards g) _ (λ b h. one b h (lead g (j ∷ Y) b) refl)
       where
-        one : (b : ℕ) → b < boards g → (t : Bool) → Every (pick t (sends g Y b (g .parts (lastOf Y) - 1)) [])
-        one b h true = every-each (g .parts (lastOf Y) - 1) _ (λ l _. (on-transfer Y _ b _ h, tt))
-        one b h false = tt
+        one : (b : ℕ) → b < boards g → (t : Bool) → lead g (j ∷ Y) b ≡ t → Every (pick t (sends g (j ∷ Y) b (g .parts j - 1)) [])
+        one b h true e = every-each (g .parts j - 1) _ (λ l r. (on-transfer Y j b l d h e (omega arith), tt))
+        one b h false e = tt
 
     every-visit : (Y : List ℕ) (m : ℕ) (inner : List TreeStep) → Down Y (g .axes) → Every inner → Every (visit Y m inner)
     every-visit Y zero inner d h = every-append inner (finish Y ∷ []) h (on-finish Y d, tt)
@@ -50,7 +63,7 @@ module _ (P : TreeStep → Type 0) where
     unfolding walk
     every-walk zero d Y e h = tt
     every-walk (suc m) d Y e h =
-        every-append (walk g m (d + 1) Y) _ (every-walk m (d + 1) Y (omega arith) (down-up Y d (d + 1) (omega arith) h)) (every-append (transfers g (d ∷ Y) (boards g)) _ (every-transfers (d ∷ Y)) (every-visit (d ∷ Y) m _ (omega arith, h) (every-walk m (d + 1) (d ∷ Y) (omega arith) (omega arith, h))))
+        every-append (walk g m (d + 1) Y) _ (every-walk m (d + 1) Y (omega arith) (down-up Y d (d + 1) (omega arith) h)) (every-append (transfers g (d ∷ Y) (boards g)) _ (every-transfers Y d (omega arith, h)) (every-visit (d ∷ Y) m _ (omega arith, h) (every-walk m (d + 1) (d ∷ Y) (omega arith) (omega arith, h))))
 
     pub every-step : Every (steps g)
     unfolding steps

@@ -14,6 +14,7 @@ pub mod Leading
 pub mod Seeking
 pub mod Keeping
 pub mod Refusing
+pub mod Told
 pub mod Listed
 pub mod Cases
 pub mod Begun

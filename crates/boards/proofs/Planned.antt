@@ -14,7 +14,7 @@ use Rattle.cube.specs.Limits.{axisLimit, lengthLimit, pointLimit}
 use Rattle.cube.specs.Boxes.{pick, product, place, position}
 use Rattle.cube.specs.Choices.{keeps, fullMask, points, lengthOf}
 use Rattle.cube.specs.Portions.{portionStart}
-use Rattle.cube.specs.Tree.{has, kept}
+use Rattle.cube.specs.Tree.{has, kept, next}
 use Rattle.cube.proofs.Sums.{by}
 use Rattle.cube.proofs.Naturals.{clash}
 use Rattle.cube.proofs.Boxing.{product-cong, place-cong, place-lt, position-place, position-lt, place-position}
@@ -401,3 +401,43 @@ module _ (q : Plan) (ok : Accepted q) (b : ℕ) (h : b < boards (planGrid q)) (l
 
   pub own-board : boardWith (planGrid q) (λ d. getD labels d 0) ≡ b
   own-board = let e = axes-same q ok in board-same (planGrid q) (λ d. getD labels d 0) (label (planGrid q) b) (λ d l. own d (omega arith)) ∙ board-labels (planGrid q) b h
+
+-- ---- the first place later than a set
+
+next-none : (f : ℕ → Bool) (n : ℕ) → ((e : ℕ) → e < n → f e ≡ false) → setOf f n ≡ []
+unfolding setOf
+next-none f zero h = refl
+next-none f (suc n) h = rw (h n (omega arith)) (next-none f n (λ e l. h e (omega arith)))
+
+next-set : (f : ℕ → Bool) (n d : ℕ) → d < n → f d ≡ true → ((e : ℕ) → d + 1 ≤ e → e < n → f e ≡ false) → next (setOf f n) ≡ suc d
+unfolding setOf
+next-set f zero d l t h = absurd (omega arith)
+next-set f (suc n) d l t h =
+    by (eqb d n)
+    (λ s. let q = eqb-true d n s in rw (ap f (sym q) ∙ t) (ap suc (sym q)))
+    (λ s. let ne = eqb-false d n s in rw (h n (omega (arith, ne)) (omega arith)) (next-set f n d (omega (arith, ne)) t (λ e u v. h e u (omega arith))))
+
+-- the choice keeps every axis from place d on
+abbrev pub KeptFrom : Plan → ℕ → ℕ → Type 0
+KeptFrom q mask d = (e : ℕ) → d ≤ e → e < q .axes → keeps mask (planGrid q .order e) ≡ true
+
+module _ (q : Plan) (ok : Accepted q) (mask d : ℕ) (kept-on : KeptFrom q mask d) where
+  pub next-found : 0 < d → d ≤ q .axes → keeps mask (getD (q .order) (d - 1) 0) ≡ false → d ≡ next (summedIn q mask)
+  unfolding summed summedBy
+  next-found h l t =
+      let a = axes-same q ok in
+      let z : suc (d - 1) ≡ d = omega arith in
+      let k : keeps mask (planGrid q .order (d - 1)) ≡ false = ap (keeps mask) (sym (order-slot q ok (d - 1) (omega arith))) ∙ t in
+      sym (next-set (summedBy (planGrid q) mask) (planGrid q .axes) (d - 1) (omega arith) (ap not k) (λ e u v. ap not (kept-on e (omega arith) (omega arith))) ∙ z)
+
+  pub next-passed : 0 < d → d ≤ q .axes → keeps mask (getD (q .order) (d - 1) 0) ≡ true → KeptFrom q mask (d - 1)
+  next-passed h l t e u v =
+      by (eqb e (d - 1))
+      (λ s. rw (eqb-true e (d - 1) s) (ap (keeps mask) (sym (order-slot q ok (d - 1) (omega arith))) ∙ t))
+      (λ s. let ne = eqb-false e (d - 1) s in kept-on e (omega (arith, ne)) v)
+
+  pub next-root : d ≤ 0 → 0 ≡ next (summedIn q mask)
+  unfolding summed
+  next-root h =
+      let a = axes-same q ok in
+      sym (ap next (next-none (summedBy (planGrid q) mask) (planGrid q .axes) (λ e l. unfold summedBy in ap not (kept-on e (omega arith) (omega arith)))))

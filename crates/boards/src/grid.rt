@@ -5,7 +5,7 @@ ghost use mathlib.Core.Bool.{_||_, not};
 ghost use lib.Dec.{eqb};
 ghost use lib.ListN.{getD, length};
 ghost use Rattle.cube.specs.Limits.{lengthLimit, pointLimit};
-ghost use Rattle.cube.specs.Tree.{has, kept};
+ghost use Rattle.cube.specs.Tree.{has, kept, next};
 ghost use Rattle.planner.specs.Refusals.{planRefusal};
 ghost use Rattle.boards.specs.Grids.{boards, boardWith, label, lead, cells};
 ghost use Rattle.boards.specs.Finding.{planGrid, summedIn, leads, leadLabel, Labels};
@@ -137,4 +137,19 @@ pub fn cells_of(plan: Plan, choice: Choice, board: u64) -> u64
 {
     let labels = labels_of(plan, board);
     cells_with(plan, choice, labels)
+}
+
+// The first place that is later than every axis that a choice sums out.
+pub fn next_of(plan: Plan, choice: Choice) -> usize
+    requires { ⌜ planRefusal plan ≡ 0 ⌝ }
+    ensures { λ r. ⌜ (r ≡ next (summedIn plan (choice .mask))) × (r ≤ plan .axes) ⌝ }
+{
+    let mut d = plan.axes as usize;
+    while 0 < d {
+        if !choice.keeps(plan.order[d - 1]) {
+            return d;
+        }
+        d -= 1;
+    }
+    0
 }
