@@ -1,6 +1,12 @@
 -- What a turn of a loop over at most eight slots asks, in plain variables: an answer in a function's proof only applies one of these.
 use Prim.Native.Nat.{ℕ, _+_, _-_, _*_, _≤_, _<_}
-use mathlib.Core.Path.{_≡_}
+use mathlib.Core.Path.{_≡_, _∙_, ap}
+use mathlib.Core.List.{List}
+use native.Mathlib.Nat.{le-antisymm}
+use lib.ListN.{set}
+use Rattle.cube.specs.Limits.{padded}
+use Rattle.cube.specs.Boxes.{table}
+use Rattle.cube.proofs.Slots.{padded-next}
 use native.Mathlib.Omega.{arith}
 use mir.Syntax.{Width, w8, w16, w32, w64, w128}
 use mir.Val.{Fits}
@@ -27,6 +33,17 @@ fits-eights {w} {x} h = fits-byte w (x * 8) (omega arith)
 
 pub fits-next : {w : Width} {x : ℕ} → x < 8 → Fits w (x + 1)
 fits-next {w} {x} h = fits-byte w (x + 1) (omega arith)
+
+-- a length, and one more
+pub fits-length : {x : ℕ} → x ≤ 65535 → Fits w64 x
+fits-length h = omega arith
+
+pub fits-longer : {x : ℕ} → x ≤ 65535 → Fits w64 (x + 1)
+fits-longer h = omega arith
+
+-- an exponent and one more, or a count of raises
+pub fits-power : {w : Width} {x : ℕ} → x ≤ 10 → Fits w (x + 1)
+fits-power {w} {x} h = fits-byte w (x + 1) (omega arith)
 
 -- ---- from the first slot to the last
 
@@ -62,3 +79,11 @@ last-le h = omega arith
 
 pub last-below : {i n : ℕ} → 0 < i → i ≤ n → n ≤ 8 → i - 1 < 8
 last-below h k l = omega arith
+
+-- ---- slots that are filled one by one
+
+pub filled : (f : ℕ → ℕ) (out : List ℕ) (i x : ℕ) → i < 8 → x ≡ f i → out ≡ padded (table i f) → set out i x ≡ padded (table (i + 1) f)
+filled f out i x h e o = ap (λ y. set out i y) e ∙ ap (λ l. set l i (f i)) o ∙ padded-next i f h
+
+pub all-filled : (f : ℕ → ℕ) (out : List ℕ) (n i : ℕ) → i ≤ n → n ≤ i → out ≡ padded (table i f) → out ≡ padded (table n f)
+all-filled f out n i l h o = o ∙ ap (λ k. padded (table k f)) (le-antisymm l h)
