@@ -34,6 +34,9 @@ fits-eights {w} {x} h = fits-byte w (x * 8) (omega arith)
 pub fits-next : {w : Width} {x : ℕ} → x < 8 → Fits w (x + 1)
 fits-next {w} {x} h = fits-byte w (x + 1) (omega arith)
 
+pub fits-count : {w : Width} {x : ℕ} → x ≤ 8 → Fits w x
+fits-count {w} {x} h = fits-byte w x (omega arith)
+
 -- a length, and one more
 pub fits-length : {x : ℕ} → x ≤ 65535 → Fits w64 x
 fits-length h = omega arith
@@ -45,10 +48,20 @@ fits-longer h = omega arith
 pub fits-power : {w : Width} {x : ℕ} → x ≤ 10 → Fits w (x + 1)
 fits-power {w} {x} h = fits-byte w (x + 1) (omega arith)
 
+-- a number of points
+pub fits-points : (x : ℕ) → x ≤ 16777216 → Fits w64 x
+fits-points x h = omega arith
+
+pub same-le : {x y z : ℕ} → x ≡ y → y ≤ z → x ≤ z
+same-le e h = omega arith
+
 -- ---- from the first slot to the last
 
 pub slot-below : {i n : ℕ} → i < n → n ≤ 8 → i < 8
 slot-below h k = omega arith
+
+pub slot-in : {i n : ℕ} → n ≡ 8 → i < 8 → i < n
+slot-in e h = omega arith
 
 pub next-le : {i n : ℕ} → i < n → i + 1 ≤ n
 next-le h = omega arith

@@ -1,5 +1,5 @@
 use mathlib.Core.Bool.{Bool, true, false, _||_}
-use Rattle.planner.proofs.Turns.{fits-slot, fits-fours, fits-next, turn-less}
+use Rattle.planner.proofs.Turns.{fits-slot, fits-fours, fits-next, slot-in, turn-less}
 use Prim.Native.Nat.{_-_, ℕ, _≤_, _<_}
 use mathlib.Core.Path.{_≡_, refl, sym, _∙_}
 use native.Mathlib.Omega.{arith}
@@ -8,9 +8,6 @@ use Rattle.planner.specs.Refusals.{slotsUsed}
 use Rattle.planner.proofs.Judging.{or-true, slots-hit, slots-miss, slots-end}
 use Rattle.planner.proofs.checks.slots_used.Statement.{statement}
 use Rattle.planner.proofs.checks.slots_used.Tie as tie
-
-in-slots : {n d : ℕ} → n ≡ 8 → d < 8 → d < n
-in-slots e h = omega arith
 
 past-slots : {n d : ℕ} → n ≡ 8 → 8 ≤ d → n ≤ d
 past-slots e h = omega arith
@@ -46,19 +43,19 @@ element-copy-out-if1 : tie.Need-element-copy-out-if1 Inv-loop μ-loop
 element-copy-out-if1 c = c .loop-test .taken
 
 returns : tie.Need-returns Inv-loop μ-loop
-returns c = let s = c .before .before .before in let p = s .before .args .t1 in let i = s .loop .inv in first-used (slotsUsed (p .axes) (p .order)) (slotsUsed (p .axes) (p .exponents)) (i .3 ∙ slots-hit (p .lengths) (s .loop .d) (in-slots (i .0) (c .before .before .loop-test .taken)) (c .if1 .taken))
+returns c = let s = c .before .before .before in let p = s .before .args .t1 in let i = s .loop .inv in first-used (slotsUsed (p .axes) (p .order)) (slotsUsed (p .axes) (p .exponents)) (i .3 ∙ slots-hit (p .lengths) (s .loop .d) (slot-in (i .0) (c .before .before .loop-test .taken)) (c .if1 .taken))
 
 element-copy-out-if2 : tie.Need-element-copy-out-if2 Inv-loop μ-loop
 element-copy-out-if2 c = c .before .before .loop-test .taken
 
 returns-2 : tie.Need-returns-2 Inv-loop μ-loop
-returns-2 c = let s = c .before .before .before .before .before in let p = s .before .args .t1 in let i = s .loop .inv in second-used (slotsUsed (p .axes) (p .lengths)) (slotsUsed (p .axes) (p .exponents)) (i .4 ∙ slots-hit (p .order) (s .loop .d) (in-slots (i .1) (c .before .before .before .before .loop-test .taken)) (c .if2 .taken))
+returns-2 c = let s = c .before .before .before .before .before in let p = s .before .args .t1 in let i = s .loop .inv in second-used (slotsUsed (p .axes) (p .lengths)) (slotsUsed (p .axes) (p .exponents)) (i .4 ∙ slots-hit (p .order) (s .loop .d) (slot-in (i .1) (c .before .before .before .before .loop-test .taken)) (c .if2 .taken))
 
 element-copy-out-if3 : tie.Need-element-copy-out-if3 Inv-loop μ-loop
 element-copy-out-if3 c = c .before .before .before .before .loop-test .taken
 
 returns-3 : tie.Need-returns-3 Inv-loop μ-loop
-returns-3 c = let s = c .before .before .before .before .before .before .before in let p = s .before .args .t1 in let i = s .loop .inv in third-used (slotsUsed (p .axes) (p .lengths)) (slotsUsed (p .axes) (p .order)) (i .5 ∙ slots-hit (p .exponents) (s .loop .d) (in-slots (i .2) (c .before .before .before .before .before .before .loop-test .taken)) (c .if3 .taken))
+returns-3 c = let s = c .before .before .before .before .before .before .before in let p = s .before .args .t1 in let i = s .loop .inv in third-used (slotsUsed (p .axes) (p .lengths)) (slotsUsed (p .axes) (p .order)) (i .5 ∙ slots-hit (p .exponents) (s .loop .d) (slot-in (i .2) (c .before .before .before .before .before .before .loop-test .taken)) (c .if3 .taken))
 
 add-d : tie.Need-add-d Inv-loop μ-loop
 add-d c = fits-next (c .before .before .before .before .before .before .loop-test .taken)
@@ -67,7 +64,7 @@ loop-less : tie.Need-loop-less Inv-loop μ-loop
 loop-less c = turn-less (c .before .before .before .before .before .before .loop-test .taken)
 
 loop-again : tie.Need-loop-again Inv-loop μ-loop
-loop-again c = let s = c .before .before .before .before .before .before .before in let p = s .before .args .t1 in let i = s .loop .inv in let h = c .before .before .before .before .before .before .loop-test .taken in (i .0, i .1, i .2, i .3 ∙ slots-miss (p .lengths) (s .loop .d) (in-slots (i .0) h) (c .before .before .before .before .if1 .left), i .4 ∙ slots-miss (p .order) (s .loop .d) (in-slots (i .1) h) (c .before .before .if2 .left), i .5 ∙ slots-miss (p .exponents) (s .loop .d) (in-slots (i .2) h) (c .if3 .left))
+loop-again c = let s = c .before .before .before .before .before .before .before in let p = s .before .args .t1 in let i = s .loop .inv in let h = c .before .before .before .before .before .before .loop-test .taken in (i .0, i .1, i .2, i .3 ∙ slots-miss (p .lengths) (s .loop .d) (slot-in (i .0) h) (c .before .before .before .before .if1 .left), i .4 ∙ slots-miss (p .order) (s .loop .d) (slot-in (i .1) h) (c .before .before .if2 .left), i .5 ∙ slots-miss (p .exponents) (s .loop .d) (slot-in (i .2) h) (c .if3 .left))
 
 returns-4 : tie.Need-returns-4 Inv-loop μ-loop
 returns-4 c = let s = c .before in let p = s .before .args .t1 in let i = s .loop .inv in let h = c .loop-test .left in none-used (i .3 ∙ slots-end (p .lengths) (s .loop .d) (past-slots (i .0) h)) (i .4 ∙ slots-end (p .order) (s .loop .d) (past-slots (i .1) h)) (i .5 ∙ slots-end (p .exponents) (s .loop .d) (past-slots (i .2) h))

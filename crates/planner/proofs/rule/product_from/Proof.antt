@@ -1,7 +1,4 @@
-use Rattle.cube.specs.Limits.{lengthLimit, pointLimit}
-use mir.Val.{Fits}
-use mir.Syntax.{w64}
-use Rattle.planner.proofs.Turns.{fits-fours, fits-next, slot-below, next-le, turn-less}
+use Rattle.planner.proofs.Turns.{fits-fours, fits-next, slot-below, next-le, turn-less, fits-length, fits-points}
 use mathlib.Core.Path.{_≡_, refl, sym, _∙_, ap}
 use Prim.Native.Nat.{ℕ, _≤_, _<_, _-_, _*_, _+_}
 use native.Mathlib.Omega.{arith}
@@ -16,12 +13,6 @@ use Rattle.planner.proofs.rule.product_from.Lts as lts
 
 later-le : {i j : ℕ} → i ≤ j → i ≤ j + 1
 later-le h = omega arith
-
-fits-length : {x : ℕ} → x ≤ lengthLimit → Fits w64 x
-fits-length h = omega arith
-
-fits-points : (x : ℕ) → x ≤ pointLimit → Fits w64 x
-fits-points x h = omega arith
 
 abbrev Inv-loop : tie.InvT-loop
 Inv-loop n i lens r₀ j₀ r j = (i ≤ j) × (j ≤ n) × (n ≤ 8) × (r * product (λ d. getD lens d 0) (n - j) j ≡ product (λ d. getD lens d 0) (n - i) i)
