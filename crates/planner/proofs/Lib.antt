@@ -1,7 +1,7 @@
 pub mod Orders
 pub mod Cases
 pub mod Tools
-pub mod Turns
+mod Turns
 pub mod Sorted
 pub mod Shuffled
 pub mod Ordered

@@ -1,6 +1,6 @@
 use mathlib.Core.Bool.{Bool, true, false, _||_}
 use Rattle.planner.proofs.Turns.{fits-slot, fits-fours, fits-next, slot-in, turn-less}
-use Prim.Native.Nat.{_-_, ℕ, _≤_, _<_}
+use Prim.Native.Nat.{_-_, ℕ, _≤_}
 use mathlib.Core.Path.{_≡_, refl, sym, _∙_}
 use native.Mathlib.Omega.{arith}
 use lib.ListN.{length, length-map}

@@ -1,9 +1,6 @@
 use lib.Dec.{lit<}
 use native.Mathlib.Nat.{pos-of-ne-zero}
 use Rattle.planner.proofs.Turns.{fits-count}
-use Prim.Native.Nat.{ℕ, _≤_, _<_}
-use mathlib.Core.Path.{_≡_, _∙_, ap, sym, refl}
-use lib.ListN.{length, take}
 use Rattle.planner.proofs.Answering.{refused-as, too-many, judged-so, fine-slots, placed, made-accepted, made-planned}
 use Rattle.planner.proofs.planning.plan.Statement.{statement}
 use Rattle.planner.proofs.planning.plan.Tie as tie

@@ -1,7 +1,6 @@
-use mathlib.Core.Path.{_≡_, refl, sym, _∙_, ap}
-use Prim.Native.Nat.{ℕ, _≤_, _<_}
+use mathlib.Core.Path.{sym, _∙_}
 use native.Mathlib.Omega.{arith}
-use lib.ListN.{length, take}
+use lib.ListN.{take}
 use lib.Seq.{length-take-le}
 use Rattle.planner.proofs.Deciding.{refuses-none, refuses-lengths, refuses-boards, refuses-room, refuses-nothing}
 use Rattle.planner.proofs.planning.planning_refusal.Statement.{statement}

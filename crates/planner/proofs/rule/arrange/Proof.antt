@@ -5,8 +5,8 @@ use Rattle.cube.specs.Boxes.{table}
 use Rattle.cube.specs.Tree.{weight}
 use Rattle.planner.specs.Rule.{exps, greedy}
 use Rattle.planner.specs.Choosing.{Bounded, Raisable, candidates}
-use mathlib.Core.Path.{_≡_, refl, sym, _∙_, ap, ap₂}
-use Prim.Native.Nat.{ℕ, _≤_, _<_}
+use mathlib.Core.Path.{sym, _∙_, ap, ap₂}
+use Prim.Native.Nat.{ℕ}
 use mathlib.Core.List.{List}
 use native.Mathlib.Omega.{arith}
 use Rattle.planner.specs.Answers.{arrangement}

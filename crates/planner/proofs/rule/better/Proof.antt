@@ -2,14 +2,11 @@ use lib.Dec.{leb}
 use Rattle.planner.proofs.Turns.{fits-power}
 use Rattle.planner.specs.Choosing.{entry}
 use Rattle.planner.proofs.Raising.{free-room, price-of}
-use mathlib.Core.Path.{_≡_, refl, sym, _∙_, ap}
-use mathlib.Core.Bool.{Bool, true, false, _&&_}
-use Prim.Native.Nat.{ℕ, suc, _≤_, _<_, _-_, _+_, _*_, _^_, _%_}
+use mathlib.Core.Path.{_≡_, _∙_}
+use mathlib.Core.Bool.{true, false, _&&_}
+use Prim.Native.Nat.{ℕ, _≤_, _<_, _+_, _*_, _^_, _%_}
 use native.Mathlib.Omega.{arith}
 use borrow.Author.Tests.{le-leb, lt-leb}
-use native.Mathlib.Nat.{mod-eq-of-lt, one-mul}
-use native.Mathlib.Numerals.{add-one}
-use lib.Pow.{pow-mono}
 use Rattle.planner.specs.Rule.{free, price}
 use Rattle.planner.proofs.rule.better.Statement.{statement}
 use Rattle.planner.proofs.rule.better.Tie as tie

@@ -1,10 +1,10 @@
 use mir.Val.{Fits}
 use mir.Syntax.{w64}
-use mathlib.Core.Path.{_≡_, refl, ap}
+use mathlib.Core.Path.{_≡_, ap}
 use Prim.Native.Nat.{ℕ, _<_, _≤_, _*_, _^_, _%_}
 use native.Mathlib.Omega.{arith}
 use native.Mathlib.Nat.{mod-eq-of-lt, one-mul, mul-le-mul}
-use lib.Pow.{pow-lt, pow-mono}
+use lib.Pow.{pow-mono}
 use Rattle.planner.proofs.rule.cost.Statement.{statement}
 use Rattle.planner.proofs.rule.cost.Tie as tie
 use Rattle.planner.proofs.rule.cost.Reads as reads

@@ -1,9 +1,9 @@
 use Rattle.planner.proofs.Turns.{fits-fours, fits-next, slot-below, next-le, turn-less, fits-length, fits-points}
-use mathlib.Core.Path.{_≡_, refl, sym, _∙_, ap}
-use Prim.Native.Nat.{ℕ, _≤_, _<_, _-_, _*_, _+_}
+use mathlib.Core.Path.{_≡_}
+use Prim.Native.Nat.{ℕ, _≤_, _-_, _*_, _+_}
 use native.Mathlib.Omega.{arith}
 use native.Mathlib.Nat.{one-mul, le-refl}
-use lib.ListN.{length, getD}
+use lib.ListN.{getD}
 use Rattle.cube.specs.Boxes.{product}
 use Rattle.planner.proofs.Bounding.{from-next, from-small, from-end}
 use Rattle.planner.proofs.rule.product_from.Statement.{statement}

@@ -3,11 +3,11 @@ use Rattle.cube.specs.Limits.{padded}
 use mathlib.Core.List.{List}
 use native.Mathlib.Nat.{le-antisymm, le-trans}
 use Rattle.planner.proofs.Turns.{fits-power, slot-below, next-le, turn-less}
-use mathlib.Core.Path.{_≡_, refl, sym, _∙_, ap}
+use mathlib.Core.Path.{_≡_}
 use mathlib.Core.Logic.{⊎-elim}
-use Prim.Native.Nat.{ℕ, suc, _≤_, _<_, _-_, _+_, _^_, zero-le}
-use lib.ListN.{getD, replicate}
-use Rattle.planner.specs.Choosing.{Raisable, candidates}
+use Prim.Native.Nat.{ℕ, _≤_, _-_, zero-le}
+use lib.ListN.{replicate}
+use Rattle.planner.specs.Choosing.{candidates}
 use Rattle.planner.proofs.Raising.{Raised, raised-none, raised-same, raised-next, raised-slots}
 use Rattle.planner.proofs.rule.raised.Statement.{statement}
 use Rattle.planner.proofs.rule.raised.Tie as tie

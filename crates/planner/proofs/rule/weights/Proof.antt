@@ -3,16 +3,15 @@ use mathlib.Core.List.{List}
 use mir.Val.{Fits}
 use mir.Syntax.{w64}
 use Rattle.planner.proofs.Turns.{fits-fours, fits-eights, fits-next, fits-length, fits-longer, slot-below, next-le, turn-less, filled, all-filled}
-use mathlib.Core.Path.{_≡_, refl, sym, _∙_, ap}
-use Prim.Native.Nat.{ℕ, suc, _≤_, _<_, _-_, _+_, _*_, _^_, zero-le}
+use mathlib.Core.Path.{_≡_, refl, sym, _∙_}
+use Prim.Native.Nat.{ℕ, _≤_, _<_, _-_, _+_, _*_, zero-le}
 use native.Mathlib.Omega.{arith}
 use native.Mathlib.Nat.{zero-add}
-use lib.ListN.{getD, set}
+use lib.ListN.{getD}
 use Rattle.cube.specs.Limits.{padded}
 use Rattle.cube.specs.Boxes.{table, tableFrom, product}
 use Rattle.cube.specs.Tree.{weight}
 use Rattle.cube.proofs.Products.{product-last}
-use Rattle.cube.proofs.Slots.{padded-next}
 use Rattle.planner.proofs.Bounding.{more-small, weight-parts, weight-small}
 use Rattle.planner.proofs.rule.weights.Statement.{statement}
 use Rattle.planner.proofs.rule.weights.Tie as tie
