@@ -37,12 +37,9 @@ fits-next {w} {x} h = fits-byte w (x + 1) (omega arith)
 pub fits-count : {w : Width} {x : ℕ} → x ≤ 8 → Fits w x
 fits-count {w} {x} h = fits-byte w x (omega arith)
 
--- a length, and one more
+-- a length
 pub fits-length : {x : ℕ} → x ≤ 65535 → Fits w64 x
 fits-length h = omega arith
-
-pub fits-longer : {x : ℕ} → x ≤ 65535 → Fits w64 (x + 1)
-fits-longer h = omega arith
 
 -- an exponent and one more, or a count of raises
 pub fits-power : {w : Width} {x : ℕ} → x ≤ 10 → Fits w (x + 1)

@@ -1,7 +1,6 @@
 use mathlib.Core.Path.{_≡_}
 use mir.Val.{Fits}
 use mir.Syntax.{w64}
-use native.Mathlib.Nat.{le-refl}
 use Rattle.planner.proofs.Turns.{fits-fours, fits-next, fits-points, same-le, slot-below}
 use native.Mathlib.Omega.{arith}
 use Rattle.planner.proofs.PricingLaws.{sent-fits, cells-small, length-small, more-small, parent-small, cells-le, moved-small, added-small, kept-undecided, summed-undecided, moved-both, moved-end, added-both, added-end}
@@ -125,7 +124,7 @@ choices-from-choices-from-requires : (t : ℕ) → choices-from-lts.Need-choices
   choices-from-below t,
   choices-from.Post,
 ) (choices-from-at t) choices-from.Post
-choices-from-choices-from-requires t c κs = let s = c .before in let p = s .pre .1 in let h = in-axes (p .within) (c .if1 .left) in (fewer (s .pre .0) h, kept-undecided p h _ _ _ (p .last) (le-refl _) (le-refl _))
+choices-from-choices-from-requires t c κs = let s = c .before in let p = s .pre .1 in let l = p .last in let h = in-axes (p .within) (c .if1 .left) in (fewer (s .pre .0) h, kept-undecided p h _ _ _ (omega arith) (omega arith) (omega arith))
 
 choices-from-add-choices-from-2 : (t : ℕ) → choices-from-lts.Need-add-choices-from-2 (
   sent-of-reads.Asked,
@@ -141,7 +140,7 @@ choices-from-choices-from-requires-2 : (t : ℕ) → choices-from-lts.Need-choic
   choices-from-below t,
   choices-from.Post,
 ) (choices-from-at t) choices-from.Post
-choices-from-choices-from-requires-2 t c κs = let s = c .before .before in let p = s .pre .1 in let h = in-axes (p .within) (c .before .if1 .left) in (fewer (s .pre .0) h, summed-undecided p h _ _ _ (p .axes .cut (s .args .i) h) (cells-le p h) (le-refl _))
+choices-from-choices-from-requires-2 t c κs = let s = c .before .before in let p = s .pre .1 in let l = p .last in let h = in-axes (p .within) (c .before .if1 .left) in let b = cells-le p h in let e = p .axes .cut (s .args .i) h in (fewer (s .pre .0) h, summed-undecided p h _ _ _ (omega arith) (omega arith) (omega arith))
 
 choices-from-add-t27 : (t : ℕ) → choices-from-lts.Need-add-t27 (
   sent-of-reads.Asked,

@@ -1,11 +1,10 @@
+use borrow.Author.Needs.{needs}
 use lib.Dec.{leb}
-use Rattle.planner.proofs.Turns.{fits-power}
 use Rattle.planner.specs.Choosing.{entry}
 use Rattle.planner.proofs.Raising.{free-room, price-of}
 use mathlib.Core.Path.{_≡_, _∙_}
 use mathlib.Core.Bool.{true, false, _&&_}
 use Prim.Native.Nat.{ℕ, _≤_, _<_, _+_, _*_, _^_, _%_}
-use native.Mathlib.Omega.{arith}
 use borrow.Author.Tests.{le-leb, lt-leb}
 use Rattle.planner.specs.Rule.{free, price}
 use Rattle.planner.proofs.rule.better.Statement.{statement}
@@ -13,9 +12,6 @@ use Rattle.planner.proofs.rule.better.Tie as tie
 use Rattle.planner.proofs.rule.better.Reads as reads
 use Rattle.planner.proofs.rule.better.Lts as lts
 use Rattle.planner.proofs.rule.cost.Reads as cost-reads
-
-shifts : {k : ℕ} → k ≤ 10 → k + 1 < 64
-shifts h = omega arith
 
 module _ (w l k least : ℕ) (low : k ≤ 10) where
   yes : 1 * 2 ^ (k + 1) % 18446744073709551616 ≤ l → (r : ℕ) → r ≡ w * 2 ^ k → leb r least ≡ (free (entry w l k) && leb (price (entry w l k)) least)
@@ -26,15 +22,15 @@ module _ (w l k least : ℕ) (low : k ≤ 10) where
 
 -- src/rule.rt:140:25
 add-room : tie.Need-add-room
-add-room c = fits-power (c .pre .1)
+add-room c = search needs
 
 -- src/rule.rt:140:25
 cast-room : tie.Need-cast-room
-cast-room c = fits-power (c .pre .1)
+cast-room c = search needs
 
 -- src/rule.rt:140:16
 shl-room : tie.Need-shl-room
-shl-room c = shifts (c .pre .1)
+shl-room c = search needs
 
 -- src/rule.rt:141:27
 cost-requires : tie.Need-cost-requires

@@ -2,11 +2,11 @@ use Rattle.planner.specs.Choosing.{Bounded}
 use mathlib.Core.List.{List}
 use mir.Val.{Fits}
 use mir.Syntax.{w64}
-use Rattle.planner.proofs.Turns.{fits-fours, fits-eights, fits-next, fits-length, fits-longer, slot-below, next-le, turn-less, filled, all-filled}
+use Rattle.planner.proofs.Turns.{fits-fours, fits-eights, fits-next, fits-length, slot-below, next-le, turn-less, filled, all-filled}
 use mathlib.Core.Path.{_≡_, refl, sym, _∙_}
 use Prim.Native.Nat.{ℕ, _≤_, _<_, _-_, _+_, _*_, zero-le}
 use native.Mathlib.Omega.{arith}
-use native.Mathlib.Nat.{zero-add}
+use native.Mathlib.Nat.{zero-add, mul-le-mul-left}
 use lib.ListN.{getD}
 use Rattle.cube.specs.Limits.{padded}
 use Rattle.cube.specs.Boxes.{table, tableFrom, product}
@@ -23,8 +23,8 @@ module _ (lens : List ℕ) (n i before : ℕ) (ok : Bounded (λ d. getD lens d 0
   before-next : before * (getD lens i 0 + 1) ≡ product (λ j. getD lens j 0 + 1) (i + 1) 0
   before-next = let p = product-last (λ j. getD lens j 0 + 1) i 0 in let z = zero-add i in sym (p ∙ (rw (z, ← e)))
 
-  fits-before : Fits w64 (before * (getD lens i 0 + 1))
-  fits-before = let m = more-small (λ d. getD lens d 0) n ok (i + 1) (omega arith) in let q = before-next in omega arith
+  fits-before : (x : ℕ) → x ≤ getD lens i 0 + 1 → Fits w64 (before * x)
+  fits-before x l = let m = more-small (λ d. getD lens d 0) n ok (i + 1) (omega arith) in let q = before-next in let r = mul-le-mul-left before l in omega arith
 
   weighed : (after : ℕ) → after ≡ product (λ d. getD lens d 0) (n - (i + 1)) (i + 1) → before * after ≡ weight n (λ d. getD lens d 0) i
   weighed after f = rw (e, f) (sym (weight-parts (λ d. getD lens d 0) n ok i))
@@ -76,11 +76,11 @@ cast-before c = fits-length (c .before .before .before .pre .short _ (c .before 
 
 -- src/rule.rt:121:28
 add-before : tie.Need-add-before Inv-loop μ-loop
-add-before c = fits-longer (c .before .before .before .pre .short _ (c .before .loop-test .taken))
+add-before c = let s = c .before .before in omega (arith, s .before .pre .short (s .loop .i) (c .before .loop-test .taken))
 
 -- src/rule.rt:121:18
 mul-before-2 : tie.Need-mul-before-2 Inv-loop μ-loop
-mul-before-2 c = let s = c .before .before in fits-before (s .before .args .t1) (s .before .args .n) (s .loop .i) (s .loop .before) (s .before .pre) (c .before .loop-test .taken) (s .loop .inv .2)
+mul-before-2 c = let s = c .before .before in fits-before (s .before .args .t1) (s .before .args .n) (s .loop .i) (s .loop .before) (s .before .pre) (c .before .loop-test .taken) (s .loop .inv .2) _ (omega arith)
 
 -- src/rule.rt:122:9
 add-i : tie.Need-add-i Inv-loop μ-loop
