@@ -1,6 +1,7 @@
 pub mod Orders
 pub mod Cases
 pub mod Tools
+mod Turns
 pub mod Sorted
 pub mod Shuffled
 pub mod Ordered

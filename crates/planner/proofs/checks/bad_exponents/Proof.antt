@@ -1,4 +1,3 @@
-use native.Mathlib.Omega.{arith}
 use mathlib.Core.Path.{_≡_}
 use lib.ListN.{length, length-map}
 use Rattle.planner.proofs.Judging.{bad-exponents}
@@ -6,13 +5,13 @@ use Rattle.planner.proofs.checks.bad_exponents.Statement.{statement}
 use Rattle.planner.proofs.checks.bad_exponents.Tie as tie
 
 cuts-each-requires : tie.Need-cuts-each-requires
-cuts-each-requires c κs = omega arith
+cuts-each-requires c κs = c .before .before .pre
 
 exponent-sum-requires : tie.Need-exponent-sum-requires
-exponent-sum-requires c κs = omega arith
+exponent-sum-requires c κs = c .before .before .before .before .pre
 
 wide-requires : tie.Need-wide-requires
-wide-requires c κs = omega arith
+wide-requires c κs = tt
 
 returns : tie.Need-returns
 returns c = let s = c .before .before .before .before .before .before in let e : length (s .args .plan .lengths) ≡ 8 = (rw length-map at (s .good .0 .1 .1 .1 .1 .0 .1 .0 .1)) in rw (bad-exponents (s .args .plan) e (s .pre), ← c .before .before .before .cuts-each .ensures, c .before .before .if1 .taken, ← c .before .exponent-sum .ensures, ← c .wide .ensures .0)

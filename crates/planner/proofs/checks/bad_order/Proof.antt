@@ -1,14 +1,13 @@
-use native.Mathlib.Omega.{arith}
 use mathlib.Core.Path.{sym, _∙_}
 use Rattle.planner.proofs.Judging.{bad-order}
 use Rattle.planner.proofs.checks.bad_order.Statement.{statement}
 use Rattle.planner.proofs.checks.bad_order.Tie as tie
 
 names-each-requires : tie.Need-names-each-requires
-names-each-requires c κs = omega arith
+names-each-requires c κs = c .before .pre
 
 slots-used-requires : tie.Need-slots-used-requires
-slots-used-requires c κs = omega arith
+slots-used-requires c κs = tt
 
 returns : tie.Need-returns
 returns c = let s = c .before .before .before .before in rw (bad-order (s .args .plan), sym (c .before .before .names-each .ensures) ∙ c .before .if1 .taken) (c .slots-used .ensures)

@@ -1,8 +1,8 @@
+use Rattle.planner.proofs.Turns.{fits-slot, fits-fours, fits-next, slot-below, next-le, turn-less}
 use borrow.Author.Tests.{not-true, not-false}
-use Prim.Native.Nat.{_-_, _^_, _≤_}
+use Prim.Native.Nat.{_-_, _^_, _≤_, zero-le}
 use mathlib.Core.Path.{_≡_, refl, sym, _∙_}
 use mathlib.Core.Bool.{true}
-use native.Mathlib.Omega.{arith}
 use lib.ListN.{getD, take}
 use lib.Dec.{leb}
 use Rattle.cube.specs.Choices.{lengthOf}
@@ -19,34 +19,34 @@ abbrev μ-loop : tie.MeasureT-loop
 
 loop-holds : tie.Need-loop-holds Inv-loop μ-loop
 unfolding all
-loop-holds c = (omega arith, refl)
+loop-holds c = (zero-le, refl)
 
 cast-i : tie.Need-cast-i Inv-loop μ-loop
-cast-i c = omega arith
+cast-i c = fits-slot (slot-below (c .loop-test .taken) (c .before .before .pre))
 
 mul-cuts : tie.Need-mul-cuts Inv-loop μ-loop
-mul-cuts c = omega arith
+mul-cuts c = fits-fours (slot-below (c .loop-test .taken) (c .before .before .pre))
 
 array-read-cuts : tie.Need-array-read-cuts Inv-loop μ-loop
-array-read-cuts c = omega arith
+array-read-cuts c = slot-below (c .loop-test .taken) (c .before .before .pre)
 
 array-read-cuts-2 : tie.Need-array-read-cuts-2 Inv-loop μ-loop
-array-read-cuts-2 c = omega arith
+array-read-cuts-2 c = slot-below (c .loop-test .taken) (c .before .before .pre)
 
 cuts-requires : tie.Need-cuts-requires Inv-loop μ-loop
-cuts-requires c κs = omega arith
+cuts-requires c κs = tt
 
 returns : tie.Need-returns Inv-loop μ-loop
 returns c = let s = c .before .before .before .before in let d = c .before .before .before .loop .d in let h = c .before .before .loop-test .taken in sym (all-fails (λ d. leb (2 ^ getD (take (s .args .axes) (s .args .t2)) d 0) (lengthOf (take (s .args .axes) (s .args .t1)) d)) (s .args .axes) d h (cut-slot (s .args .t1) (s .args .t2) (s .args .axes) d h ∙ sym (c .before .cuts .ensures) ∙ not-true _ (c .if1 .taken)))
 
 add-d : tie.Need-add-d Inv-loop μ-loop
-add-d c = omega arith
+add-d c = fits-next (slot-below (c .before .before .loop-test .taken) (c .before .before .before .before .pre))
 
 loop-less : tie.Need-loop-less Inv-loop μ-loop
-loop-less c = omega arith
+loop-less c = turn-less (c .before .before .loop-test .taken)
 
 loop-again : tie.Need-loop-again Inv-loop μ-loop
-loop-again c = let s = c .before .before .before .before in let d = c .before .before .before .loop .d in let h = c .before .before .loop-test .taken in (omega arith, all-next (λ d. leb (2 ^ getD (take (s .args .axes) (s .args .t2)) d 0) (lengthOf (take (s .args .axes) (s .args .t1)) d)) d (c .before .before .before .loop .inv .1) (cut-slot (s .args .t1) (s .args .t2) (s .args .axes) d h ∙ sym (c .before .cuts .ensures) ∙ not-false _ (c .if1 .left)))
+loop-again c = let s = c .before .before .before .before in let d = c .before .before .before .loop .d in let h = c .before .before .loop-test .taken in (next-le h, all-next (λ d. leb (2 ^ getD (take (s .args .axes) (s .args .t2)) d 0) (lengthOf (take (s .args .axes) (s .args .t1)) d)) d (c .before .before .before .loop .inv .1) (cut-slot (s .args .t1) (s .args .t2) (s .args .axes) d h ∙ sym (c .before .cuts .ensures) ∙ not-false _ (c .if1 .left)))
 
 returns-2 : tie.Need-returns-2 Inv-loop μ-loop
 returns-2 c = let s = c .before .before in let i = c .before .loop .inv in sym (all-end (λ d. leb (2 ^ getD (take (s .args .axes) (s .args .t2)) d 0) (lengthOf (take (s .args .axes) (s .args .t1)) d)) (s .args .axes) (c .before .loop .d) (i .0) (c .loop-test .left) (i .1))

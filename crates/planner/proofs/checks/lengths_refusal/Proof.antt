@@ -1,19 +1,17 @@
-use native.Mathlib.Omega.{arith}
 use mathlib.Core.Path.{sym, _∙_}
-use borrow.Author.Needs.{needs}
 use Rattle.cube.specs.Checks.{first}
 use Rattle.planner.proofs.checks.lengths_refusal.Statement.{statement}
 use Rattle.planner.proofs.checks.lengths_refusal.Tie as tie
 
 bad-length-requires : tie.Need-bad-length-requires
-bad-length-requires c κs = omega arith
+bad-length-requires c κs = c .pre
 
 returns : tie.Need-returns
 unfolding first
 returns c = rw (sym (c .before .bad-length .ensures) ∙ c .if1 .taken)
 
 too-many-points-requires : tie.Need-too-many-points-requires
-too-many-points-requires c κs = (search needs, sym (c .before .bad-length .ensures) ∙ c .if1 .left)
+too-many-points-requires c κs = (c .before .before .pre, sym (c .before .bad-length .ensures) ∙ c .if1 .left)
 
 returns-2 : tie.Need-returns-2
 unfolding first

@@ -1,6 +1,7 @@
-use Prim.Native.Nat.{_-_, _*_, _≤_}
+use lib.Dec.{lit≤}
+use Rattle.planner.proofs.Turns.{fits-slot, fits-fours, fits-next, fits-length, slot-below, next-le, turn-less}
+use Prim.Native.Nat.{_-_, _*_, _≤_, zero-le}
 use mathlib.Core.Path.{_≡_, sym}
-use native.Mathlib.Omega.{arith}
 use lib.ListN.{take}
 use Rattle.cube.specs.Choices as Choices
 use Rattle.cube.specs.Choices.{lengthOf}
@@ -16,34 +17,34 @@ abbrev μ-loop : tie.MeasureT-loop
 μ-loop axes lengths points₀ d₀ points d = axes - d
 
 loop-holds : tie.Need-loop-holds Inv-loop μ-loop
-loop-holds c = (omega arith, omega arith, points-start (c .args .t1) (c .args .axes) (c .good .0 .1 .0 .1) (c .pre .0) (c .pre .1))
+loop-holds c = (zero-le, lit≤ tt, points-start (c .args .t1) (c .args .axes) (c .good .0 .1 .0 .1) (c .pre .0) (c .pre .1))
 
 cast-points : tie.Need-cast-points Inv-loop μ-loop
-cast-points c = omega arith
+cast-points c = fits-slot (slot-below (c .loop-test .taken) (c .before .before .pre .0))
 
 mul-points : tie.Need-mul-points Inv-loop μ-loop
-mul-points c = omega arith
+mul-points c = fits-fours (slot-below (c .loop-test .taken) (c .before .before .pre .0))
 
 array-read-points : tie.Need-array-read-points Inv-loop μ-loop
-array-read-points c = omega arith
+array-read-points c = slot-below (c .loop-test .taken) (c .before .before .pre .0)
 
 cast-points-2 : tie.Need-cast-points-2 Inv-loop μ-loop
-cast-points-2 c = let s = c .before .before in let q = slot-good (s .args .t1) (s .args .axes) (s .good .0 .1 .0 .1) (s .pre .0) (s .pre .1) (c .before .loop .d) (c .loop-test .taken) in omega arith
+cast-points-2 c = let s = c .before .before in fits-length (slot-good (s .args .t1) (s .args .axes) (s .good .0 .1 .0 .1) (s .pre .0) (s .pre .1) (c .before .loop .d) (c .loop-test .taken) .1)
 
 mul-points-2 : tie.Need-mul-points-2 Inv-loop μ-loop
-mul-points-2 c = let s = c .before .before in let i = c .before .loop .inv in let q = points-fit (s .args .t1) (s .args .axes) (s .good .0 .1 .0 .1) (s .pre .0) (s .pre .1) (c .before .loop .points) (c .before .loop .d) (c .loop-test .taken) (i .1) (i .2) in omega arith
+mul-points-2 c = let s = c .before .before in let i = c .before .loop .inv in record { fits = points-fit (s .args .t1) (s .args .axes) (s .good .0 .1 .0 .1) (s .pre .0) (s .pre .1) (c .before .loop .points) (c .before .loop .d) (c .loop-test .taken) (i .1) (i .2) }
 
 returns : tie.Need-returns Inv-loop μ-loop
 returns c = let s = c .before .before .before in let i = c .before .before .loop .inv in sym (points-past (s .args .t1) (s .args .axes) (s .good .0 .1 .0 .1) (s .pre .0) (s .pre .1) (c .before .before .loop .points) (c .before .before .loop .d) (c .before .loop-test .taken) (i .1) (i .2) (c .if1 .taken))
 
 add-d : tie.Need-add-d Inv-loop μ-loop
-add-d c = omega arith
+add-d c = fits-next (slot-below (c .before .loop-test .taken) (c .before .before .before .pre .0))
 
 loop-less : tie.Need-loop-less Inv-loop μ-loop
-loop-less c = omega arith
+loop-less c = turn-less (c .before .loop-test .taken)
 
 loop-again : tie.Need-loop-again Inv-loop μ-loop
-loop-again c = let s = c .before .before .before in let i = c .before .before .loop .inv in (omega arith, c .if1 .left, points-next (s .args .t1) (s .args .axes) (s .good .0 .1 .0 .1) (s .pre .0) (s .pre .1) (c .before .before .loop .points) (c .before .before .loop .d) (c .before .loop-test .taken) (i .1) (i .2))
+loop-again c = let s = c .before .before .before in let i = c .before .before .loop .inv in (next-le (c .before .loop-test .taken), c .if1 .left, points-next (s .args .t1) (s .args .axes) (s .good .0 .1 .0 .1) (s .pre .0) (s .pre .1) (c .before .before .loop .points) (c .before .before .loop .d) (c .before .loop-test .taken) (i .1) (i .2))
 
 returns-2 : tie.Need-returns-2 Inv-loop μ-loop
 returns-2 c = let s = c .before .before in let i = c .before .loop .inv in sym (points-end (s .args .t1) (s .args .axes) (s .good .0 .1 .0 .1) (s .pre .0) (s .pre .1) (c .before .loop .points) (c .before .loop .d) (c .loop-test .left) (i .1) (i .2))

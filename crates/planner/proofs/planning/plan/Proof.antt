@@ -1,9 +1,7 @@
-use Prim.Native.Nat.{ℕ, _≤_, _<_}
-use mathlib.Core.Path.{_≡_, _∙_, ap, sym, refl}
-use native.Mathlib.Omega.{arith}
-use lib.ListN.{length, take}
+use lib.Dec.{lit<}
+use native.Mathlib.Nat.{pos-of-ne-zero}
+use Rattle.planner.proofs.Turns.{fits-count}
 use Rattle.planner.proofs.Answering.{refused-as, too-many, judged-so, fine-slots, placed, made-accepted, made-planned}
-use borrow.Author.Needs.{needs}
 use Rattle.planner.proofs.planning.plan.Statement.{statement}
 use Rattle.planner.proofs.planning.plan.Tie as tie
 use Rattle.planner.proofs.planning.plan.Reads as reads
@@ -17,7 +15,7 @@ use Rattle.planner.proofs.rule.slots.Reads as slots-reads
 
 -- src/planning.rt:70:9
 refused-requires : tie.Need-refused-requires
-refused-requires c κs = search needs
+refused-requires c κs = lit< tt
 
 -- src/planning.rt:70:9
 returns : tie.Need-returns
@@ -25,19 +23,19 @@ returns c = let s = c .before .before .before in let l = s .args .lengths .now i
 
 -- src/planning.rt:72:9
 slots-requires : tie.Need-slots-requires
-slots-requires c κs = search needs
+slots-requires c κs = c .if1 .left
 
 -- src/planning.rt:73:36
 cast-planning-refusal : tie.Need-cast-planning-refusal
-cast-planning-refusal c = search needs
+cast-planning-refusal c = fits-count (c .before .if1 .left)
 
 -- src/planning.rt:73:9
 planning-refusal-requires : tie.Need-planning-refusal-requires
-planning-refusal-requires c κs = search needs
+planning-refusal-requires c κs = c .before .if1 .left
 
 -- src/planning.rt:75:9
 refused-requires-2 : tie.Need-refused-requires-2
-refused-requires-2 c κs = search needs
+refused-requires-2 c κs = pos-of-ne-zero (c .if2 .taken)
 
 -- src/planning.rt:75:9
 returns-2 : tie.Need-returns-2
@@ -53,7 +51,7 @@ by-axis-requires c κs = let a = c .before .before in let e = a .before in let r
 
 -- src/planning.rt:81:16
 cast-axes : tie.Need-cast-axes
-cast-axes c = search needs
+cast-axes c = fits-count (c .before .before .before .before .before .before .before .if1 .left)
 
 -- src/planning.rt:89:9
 prices-requires : tie.Need-prices-requires

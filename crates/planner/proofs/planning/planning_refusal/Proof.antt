@@ -1,10 +1,8 @@
-use mathlib.Core.Path.{_≡_, refl, sym, _∙_, ap}
-use Prim.Native.Nat.{ℕ, _≤_, _<_}
+use mathlib.Core.Path.{sym, _∙_}
 use native.Mathlib.Omega.{arith}
-use lib.ListN.{length, take}
+use lib.ListN.{take}
 use lib.Seq.{length-take-le}
 use Rattle.planner.proofs.Deciding.{refuses-none, refuses-lengths, refuses-boards, refuses-room, refuses-nothing}
-use borrow.Author.Needs.{needs}
 use Rattle.planner.proofs.planning.planning_refusal.Statement.{statement}
 use Rattle.planner.proofs.planning.planning_refusal.Tie as tie
 use Rattle.planner.proofs.planning.planning_refusal.Reads as reads
@@ -18,7 +16,7 @@ returns c = let s = c .before in let a = s .args in let g = s .good .0 .1 .0 .1 
 
 -- src/planning.rt:17:9
 lengths-refusal-requires : tie.Need-lengths-refusal-requires
-lengths-refusal-requires c κs = search needs
+lengths-refusal-requires c κs = c .before .pre
 
 -- src/planning.rt:19:9
 returns-2 : tie.Need-returns-2
@@ -30,7 +28,7 @@ returns-3 c = let s = c .before .before .before .before in let a = s .args in le
 
 -- src/planning.rt:24:9
 room-of-requires : tie.Need-room-of-requires
-room-of-requires c κs = search needs
+room-of-requires c κs = c .before .before .before .before .pre
 
 -- src/planning.rt:26:9
 returns-4 : tie.Need-returns-4

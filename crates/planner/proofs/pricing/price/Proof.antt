@@ -1,4 +1,3 @@
-use native.Mathlib.Omega.{arith}
 use mathlib.Core.Path.{sym, _∙_}
 use Rattle.planner.specs.Plans.{listsOf}
 use Rattle.planner.specs.Refusals.{planRefusal}
@@ -8,7 +7,7 @@ use Rattle.planner.proofs.pricing.price.Statement.{statement}
 use Rattle.planner.proofs.pricing.price.Tie as tie
 
 plan-refusal-requires : tie.Need-plan-refusal-requires
-plan-refusal-requires c κs = omega arith
+plan-refusal-requires c κs = tt
 
 returns : tie.Need-returns
 unfolding pricing

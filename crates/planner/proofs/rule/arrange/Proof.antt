@@ -5,13 +5,12 @@ use Rattle.cube.specs.Boxes.{table}
 use Rattle.cube.specs.Tree.{weight}
 use Rattle.planner.specs.Rule.{exps, greedy}
 use Rattle.planner.specs.Choosing.{Bounded, Raisable, candidates}
-use mathlib.Core.Path.{_≡_, refl, sym, _∙_, ap, ap₂}
-use Prim.Native.Nat.{ℕ, _≤_, _<_}
+use mathlib.Core.Path.{sym, _∙_, ap, ap₂}
+use Prim.Native.Nat.{ℕ}
 use mathlib.Core.List.{List}
 use native.Mathlib.Omega.{arith}
 use Rattle.planner.specs.Answers.{arrangement}
 use Rattle.planner.proofs.Arranging.{order-lt, lens-bounded, ws-raisable, arranged}
-use borrow.Author.Needs.{needs}
 use Rattle.planner.proofs.rule.arrange.Statement.{statement}
 use Rattle.planner.proofs.rule.arrange.Tie as tie
 use Rattle.planner.proofs.rule.arrange.Reads as reads
@@ -23,7 +22,7 @@ use Rattle.planner.proofs.rule.weights.Reads as weights-reads
 
 -- src/rule.rt:219:9
 sorted-requires : tie.Need-sorted-requires
-sorted-requires c κs = search needs
+sorted-requires c κs = c .pre .0
 
 -- src/rule.rt:220:9
 in-order-requires : tie.Need-in-order-requires
