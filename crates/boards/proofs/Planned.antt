@@ -14,18 +14,19 @@ use Rattle.cube.specs.Limits.{axisLimit, lengthLimit, pointLimit}
 use Rattle.cube.specs.Boxes.{pick, product, place, position}
 use Rattle.cube.specs.Choices.{keeps, fullMask, points, lengthOf}
 use Rattle.cube.specs.Portions.{portionStart}
+use Rattle.cube.specs.Tree as Tree
 use Rattle.cube.specs.Tree.{has, kept, next}
 use Rattle.cube.proofs.Sums.{by}
 use Rattle.cube.proofs.Naturals.{clash}
 use Rattle.cube.proofs.Boxing.{product-cong, place-cong, place-lt, position-place, position-lt, place-position}
 use Rattle.cube.proofs.Products.{product-append, product-last, product-next, product-none, product-pos, product-le}
 use Rattle.cube.proofs.Sets.{Down, down-up, down-lt, kept-has, kept-out}
-use Rattle.planner.specs.Plans.{listsOf, lengthAt}
+use Rattle.planner.specs.Plans.{listsOf, lengthAt, mostAt}
 use Rattle.planner.specs.declared.types.Plan.{Plan}
 use Rattle.planner.specs.Accepted.{Accepted}
 use Rattle.planner.proofs.Orders.{order-below, product-order}
 use Rattle.planner.proofs.PricingLaws.{along, few-axes}
-use Rattle.boards.specs.Grids.{Grid, Lawful, gridOf, setOf, summedBy, summed, boards, boardWith, label, lead, extent, box, cells}
+use Rattle.boards.specs.Grids.{Grid, Lawful, gridOf, setOf, summedBy, summed, boards, boardWith, label, lead, extent, box, cells, share, regionStart, index}
 use Rattle.boards.specs.Finding.{planGrid, summedIn, leads, leadLabel, Labels}
 use Rattle.boards.proofs.Tallied.{lawful, axes-same, boards-few}
 use Rattle.boards.proofs.Finishing.{set-has}
@@ -441,3 +442,21 @@ module _ (q : Plan) (ok : Accepted q) (mask d : ℕ) (kept-on : KeptFrom q mask 
   next-root h =
       let a = axes-same q ok in
       sym (ap next (next-none (summedBy (planGrid q) mask) (planGrid q .axes) (λ e l. unfold summedBy in ap not (kept-on e (omega arith) (omega arith)))))
+
+-- ---- regions
+
+module _ (q : Plan) (ok : Accepted q) where
+  pub start-plan : (i : ℕ) → Tree.regionStart (q .axes) (mostAt (listsOf q)) i ≡ regionStart (planGrid q) i
+  unfolding regionStart
+  start-plan i = ap (λ n. Tree.regionStart n (mostAt (listsOf q)) i) (sym (axes-same q ok)) ∙ (unfold gridOf in refl)
+
+  pub share-plan : Tree.regionStart (q .axes) (mostAt (listsOf q)) (q .axes) ≡ share (planGrid q)
+  unfolding share Tree.shareSize
+  share-plan = start-plan (q .axes) ∙ (unfold regionStart in ap (Tree.regionStart (planGrid q .axes) (planGrid q .most)) (sym (axes-same q ok)))
+
+pub first-cell : (g : Grid) (b i : ℕ) → b * share g + regionStart g i ≡ index g b i 0
+unfolding index
+first-cell g b i = omega arith
+
+pub area-fits : (b s r n i : ℕ) → b < 1024 → n ≤ 8 → i ≤ n → s ≤ pointLimit * n → r ≤ pointLimit * i → b * s + r < 274877906944
+area-fits b s r n i h f l k u = let m = mul-le-mul {n₁ = b} {m₁ = s} {n₂ = 1023} {m₂ = 134217728} (omega arith) (omega arith) in omega arith

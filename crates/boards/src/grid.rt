@@ -1,16 +1,17 @@
 // Boards by their labels: portions, extents, leads and cells. Axes go by their place in the plan.
 ghost use mathlib.Core.Path.{_≡_};
-ghost use Prim.Native.Nat.{ℕ, suc, _-_, _≤_, _<_};
+ghost use Prim.Native.Nat.{ℕ, suc, _-_, _*_, _^_, _≤_, _<_};
 ghost use mathlib.Core.Bool.{_||_, not};
 ghost use lib.Dec.{eqb};
 ghost use lib.ListN.{getD, length};
 ghost use Rattle.cube.specs.Limits.{lengthLimit, pointLimit};
 ghost use Rattle.cube.specs.Tree.{has, kept, next};
 ghost use Rattle.planner.specs.Refusals.{planRefusal};
-ghost use Rattle.boards.specs.Grids.{boards, boardWith, label, lead, cells};
+ghost use Rattle.boards.specs.Grids.{boards, boardWith, label, lead, cells, share, index};
 ghost use Rattle.boards.specs.Finding.{planGrid, summedIn, leads, leadLabel, Labels};
 use crate::counts::parts_of;
 use cube::types::Choice;
+use planner::pricing::region_start;
 use planner::types::Plan;
 
 // Where portion l of the axis at place d starts; the last one ends where the next would start.
@@ -152,4 +153,22 @@ pub fn next_of(plan: Plan, choice: Choice) -> usize
         d -= 1;
     }
     0
+}
+
+// A, the cells of a board's share.
+pub fn share_of(plan: Plan) -> u64
+    requires { ⌜ planRefusal plan ≡ 0 ⌝ }
+    ensures { λ r. ⌜ (r ≡ share (planGrid plan)) × (r ≤ pointLimit * plan .axes) ⌝ }
+{
+    region_start(plan, plan.axes as usize)
+}
+
+// Where region i of a board's share starts in the work area.
+pub fn region_at(plan: Plan, board: u64, i: usize) -> u64
+    requires { ⌜ (planRefusal plan ≡ 0) × (board < 1024) × (i ≤ plan .axes) ⌝ }
+    ensures { λ r. ⌜ (r ≡ index (planGrid plan) board i 0) × (r < 2 ^ 38) ⌝ }
+{
+    let share = share_of(plan);
+    let start = region_start(plan, i);
+    board * share + start
 }

@@ -289,9 +289,9 @@ unfolding shareSize
 share-end n i most h k = let e : i ≡ n = omega arith in rw e
 
 -- the sizes below n alone matter
-share-cong : (n : ℕ) (most most′ : ℕ → ℕ) → ((d : ℕ) → d < n → most d ≡ most′ d) → shareSize n most ≡ shareSize n most′
-unfolding shareSize regionStart regionSize choiceCells kept
-share-cong n most most′ same = sumN-cong n (λ i h. product-cong n 0 (λ d a b. ap (λ x. pick (has (i ∷ []) d) 1 x) (same d (omega arith))))
+starts-cong : (n k : ℕ) (most most′ : ℕ → ℕ) → ((d : ℕ) → d < n → most d ≡ most′ d) → regionStart n most k ≡ regionStart n most′ k
+unfolding regionStart regionSize choiceCells kept
+starts-cong n k most most′ same = sumN-cong k (λ i h. product-cong n 0 (λ d a b. ap (λ x. pick (has (i ∷ []) d) 1 x) (same d (omega arith))))
 
 -- ---- a plan along its order
 
@@ -361,13 +361,20 @@ module _ (q : Plan) (ok : Accepted q) where
     unfolding mostOf mostAt
     most-along d h = rw (lens-along d h, exps-along d h)
 
+    share-same : shareSize (q .axes) (mostOf L E) ≡ shareSize (q .axes) (mostAt (listsOf q))
+    unfolding shareSize
+    share-same = starts-cong (q .axes) (q .axes) (mostOf L E) (mostAt (listsOf q)) most-along
+
     -- what the code returns is what the plan costs
     pub prices-same : record { moved = movedFrom L E (q .axes - 0) 0 0 1; added = addedFrom L (q .axes - 0) 0 1 0; share = shareSize (q .axes) (mostOf L E) } ≡ pricesOf (listsOf q)
     unfolding pricesOf Plans.moved Plans.added Plans.shareSize
     prices-same =
         let n = q .axes in
         let e = ok .axes in
-        rw (sub-zero, e, moved-same L E n (lengthAt (listsOf q)) (exponentAt (listsOf q)) lens-along exps-along, added-same L E n (lengthAt (listsOf q)) (exponentAt (listsOf q)) lens-along exps-along, share-cong n (mostOf L E) (mostAt (listsOf q)) most-along)
+        rw (sub-zero, e, moved-same L E n (lengthAt (listsOf q)) (exponentAt (listsOf q)) lens-along exps-along, added-same L E n (lengthAt (listsOf q)) (exponentAt (listsOf q)) lens-along exps-along, share-same)
+
+    pub starts-same : (i : ℕ) → regionStart (q .axes) (mostOf L E) i ≡ regionStart (q .axes) (mostAt (listsOf q)) i
+    starts-same i = starts-cong (q .axes) i (mostOf L E) (mostAt (listsOf q)) most-along
 
 -- ---- the entry's answer
 

@@ -1,11 +1,11 @@
 ghost use mathlib.Core.Path.{_≡_};
-ghost use Prim.Native.Nat.{ℕ, _-_, _^_, _≤_, _<_};
+ghost use Prim.Native.Nat.{ℕ, _-_, _*_, _^_, _≤_, _<_};
 ghost use lib.ListN.{getD};
 ghost use Rattle.cube.specs.Limits.{axisLimit, powerLimit, pointLimit};
 ghost use Rattle.cube.specs.Choices.{lengthOf};
 ghost use Rattle.cube.specs.Portions.{ceiling};
-ghost use Rattle.cube.specs.Tree.{sent, regionSize, shareSize};
-ghost use Rattle.planner.specs.Plans.{listsOf};
+ghost use Rattle.cube.specs.Tree.{sent, regionSize, regionStart};
+ghost use Rattle.planner.specs.Plans.{mostAt, listsOf};
 ghost use Rattle.planner.specs.Refusals.{planRefusal};
 ghost use Rattle.planner.specs.Answers.{pricesOf, pricedReply, pricing};
 ghost use Rattle.planner.specs.Pricing.{movedFrom, addedFrom, mostOf, Priceable, Undecided};
@@ -86,18 +86,18 @@ fn region_size(lengths: [u32; 8], exponents: [u8; 8], n: usize, i: usize) -> u64
     size
 }
 
-// A, the sum of the regions.
-fn share_size(lengths: [u32; 8], exponents: [u8; 8], n: usize) -> u64
-    requires { ⌜ Priceable lengths exponents n ⌝ }
-    ensures { λ r. ⌜ r ≡ shareSize n (mostOf lengths exponents) ⌝ }
+// The regions before region i; all of them together are A.
+fn regions_before(lengths: [u32; 8], exponents: [u8; 8], n: usize, i: usize) -> u64
+    requires { ⌜ (Priceable lengths exponents n) × (i ≤ n) ⌝ }
+    ensures { λ r. ⌜ (r ≡ regionStart n (mostOf lengths exponents) i) × (r ≤ pointLimit * i) ⌝ }
 {
-    let mut share: u64 = 0;
-    let mut i: usize = 0;
-    while i < n {
-        share += region_size(lengths, exponents, n, i);
-        i += 1;
+    let mut cells: u64 = 0;
+    let mut r: usize = 0;
+    while r < i {
+        cells += region_size(lengths, exponents, n, r);
+        r += 1;
     }
-    share
+    cells
 }
 
 // Exponents in plan order.
@@ -127,12 +127,26 @@ pub fn prices(plan: Plan) -> Prices
     let lengths = in_order(by_axis, order, n);
     let exponents = exponents_along(cuts, order, n);
     let sums = choices_from(lengths, exponents, n, 0, 0, 1, 0);
-    let share = share_size(lengths, exponents, n);
+    let share = regions_before(lengths, exponents, n, n);
     Prices {
         moved: sums.moved,
         added: sums.added,
         share,
     }
+}
+
+// Where region i of a share starts. The region after the last would start where the share ends: at A.
+pub fn region_start(plan: Plan, i: usize) -> u64
+    requires { ⌜ (planRefusal plan ≡ 0) × (i ≤ plan .axes) ⌝ }
+    ensures { λ r. ⌜ (r ≡ regionStart (plan .axes) (mostAt (listsOf plan)) i) × (r ≤ pointLimit * i) ⌝ }
+{
+    let n = plan.axes as usize;
+    let by_axis = plan.lengths;
+    let cuts = plan.exponents;
+    let order = plan.order;
+    let lengths = in_order(by_axis, order, n);
+    let exponents = exponents_along(cuts, order, n);
+    regions_before(lengths, exponents, n, i)
 }
 
 // The public entry: a plan's prices, or its refusal.
