@@ -14,3 +14,4 @@ pub mod Ranges
 pub mod Positions
 pub mod Claimed
 pub mod Unwrapped
+pub mod Refusing
