@@ -19,7 +19,8 @@ use Rattle.boards.specs.Held.{finishes}
 use Rattle.boards.proofs.Lawful.{grid-lawful}
 use Rattle.boards.proofs.Finishing.{any, same-refl, down-set, finished-once, finish-down}
 use Rattle.boards.proofs.Counting.{board-count}
-use Rattle.engine.specs.Memory.{wrapped, read, ran}
+use Rattle.cells.specs.Wrapped.{wrapped}
+use Rattle.engine.specs.Memory.{read, ran}
 use Rattle.engine.specs.Gather.{gathered, viewed}
 use Rattle.engine.proofs.Totals.{totalAt, totals-law}
 use Rattle.engine.proofs.Runs.{Final}

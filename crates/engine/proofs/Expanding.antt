@@ -14,7 +14,8 @@ use Rattle.cube.proofs.Boxing.{position-lt}
 use Rattle.boards.specs.Grids.{Grid, Lawful, boards, lead, extent, box, cells, boardOf, regionOf, cellOf, cellAt}
 use Rattle.boards.specs.Steps.{expand}
 use Rattle.boards.proofs.Boards.{cell-region}
-use Rattle.engine.specs.Memory.{wrapped, source, formed, forms, after}
+use Rattle.cells.specs.Wrapped.{wrapped}
+use Rattle.engine.specs.Memory.{source, formed, forms, after}
 use Rattle.engine.proofs.Memory.{expand-keeps}
 use Rattle.engine.proofs.Runs.{parent-within}
 

@@ -22,7 +22,8 @@ use Rattle.planner.specs.Plans.{PlanLists, Sound}
 use Rattle.boards.specs.Grids.{Grid, Lawful, gridOf, maskOf, boards, label, lead, extent, box, cells, global, share, index, cellAt}
 use Rattle.boards.proofs.Lawful.{grid-lawful}
 use Rattle.boards.proofs.Boards.{cells-fit}
-use Rattle.engine.specs.Memory.{wrapped, read}
+use Rattle.cells.specs.Wrapped.{wrapped}
+use Rattle.engine.specs.Memory.{read}
 use Rattle.engine.specs.Gather.{portionFrom, portionOf, owner, local, gatheredPosition, gathered, viewed}
 use Rattle.engine.proofs.Memory.{region-in}
 use Rattle.engine.proofs.Totals.{Law, totalAt, total-cong, totals-law, order-of-rank, order-below, order-length, keeps-order}

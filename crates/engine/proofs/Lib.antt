@@ -2,7 +2,6 @@ pub mod Listed
 pub mod Cases
 pub mod Calls
 pub mod Memory
-pub mod Wrapping
 pub mod Totals
 pub mod Runs
 pub mod Lists

@@ -22,9 +22,10 @@ use Rattle.boards.specs.Grids.{Grid, Lawful, boards, regionSize, share, boardOf
 use Rattle.boards.specs.Steps.{TreeStep, expand, transfer, finish, steps}
 use Rattle.boards.proofs.Boards.{most-pos}
 use Rattle.boards.proofs.Every.{Every, every-append, every-first, every-step}
-use Rattle.engine.specs.Memory.{wrapped, forms, after, read, stepped, ran}
+use Rattle.cells.specs.Wrapped.{wrapped}
+use Rattle.engine.specs.Memory.{forms, after, read, stepped, ran}
 use Rattle.engine.proofs.Memory.{run, region-in}
-use Rattle.engine.proofs.Wrapping.{wrapped-fits, sum-fits, pick-small}
+use Rattle.cells.proofs.Modulo.{wrapped-fits, sum-fits, pick-small}
 use Rattle.engine.proofs.Totals.{Law}
 use Rattle.engine.proofs.Runs.{Final, run-exact}
 

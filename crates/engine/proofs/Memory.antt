@@ -15,7 +15,8 @@ use Rattle.cube.proofs.Boxing.{place-cong, place-lt, position-place}
 use Rattle.boards.specs.Grids.{Grid, Lawful, boards, label, withLabel, lead, extent, box, cells, global, regionSize, regionStart, share, boardOf, regionOf, cellAt}
 use Rattle.boards.specs.Steps.{TreeStep, expand, transfer}
 use Rattle.boards.proofs.Boards.{start-next, starts-rise, cell-board, cell-region, cell-cell, cell-cong, sender-cells, sender-cell}
-use Rattle.engine.specs.Memory.{wrapped, pointAt, source, formed, forms, after}
+use Rattle.cells.specs.Wrapped.{wrapped}
+use Rattle.engine.specs.Memory.{pointAt, source, formed, forms, after}
 
 -- a list of steps, one after the other
 unfoldable pub run : Grid → (ℕ → ℤ) → List TreeStep → (ℕ → ℤ) → (ℕ → ℤ)

@@ -18,7 +18,8 @@ use Rattle.boards.specs.Grids.{Grid, Lawful, label, extent, box, cells, global,
 use Rattle.boards.specs.Steps.{transfer}
 use Rattle.boards.proofs.Boards.{start-zero, start-next, board-index, region-index, cell-index}
 use Rattle.boards.proofs.Around.{inner, place-further}
-use Rattle.engine.specs.Memory.{wrapped, pointAt, source, formed, after}
+use Rattle.cells.specs.Wrapped.{wrapped}
+use Rattle.engine.specs.Memory.{pointAt, source, formed, after}
 use Rattle.engine.proofs.Loops.{axisLength, stride, parent-formula}
 use Rattle.engine.proofs.Expanding.{oneChild}
 

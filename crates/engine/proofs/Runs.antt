@@ -17,11 +17,12 @@ use Rattle.boards.specs.Grids.{Grid, Lawful, boards, label, withLabel, lead, ex
 use Rattle.boards.specs.Steps.{TreeStep, expand, transfer, finish, each, sends, transfers, visit, walk, steps}
 use Rattle.boards.proofs.Boards as Boards
 use Rattle.boards.proofs.Moving.{lead-each}
-use Rattle.engine.specs.Memory.{wrapped, source, after}
+use Rattle.cells.specs.Wrapped.{wrapped}
+use Rattle.engine.specs.Memory.{source, after}
 use Rattle.engine.proofs.Memory as Memory
 use Rattle.engine.proofs.Memory.{run}
 use Rattle.engine.proofs.Totals.{Law}
-use Rattle.engine.proofs.Wrapping.{wrapped-both, wrapped-twice, wrapped-sum}
+use Rattle.cells.proofs.Modulo.{wrapped-both, wrapped-twice, wrapped-sum}
 
 -- on the leads of Y the cells of Y are the totals T, modulo 2^64
 unfoldable pub Final : Grid → (List ℕ → (ℕ → ℕ) → ℤ) → List ℕ → (ℕ → ℤ) → Type 0

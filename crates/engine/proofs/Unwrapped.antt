@@ -27,8 +27,9 @@ use Rattle.boards.specs.Steps.{TreeStep, expand, transfer, finish, steps}
 use Rattle.boards.proofs.Lawful.{grid-lawful}
 use Rattle.boards.proofs.Boards.{start-zero, start-next, sender-cells, sender-cell}
 use Rattle.boards.proofs.Every.{Every, every-first}
-use Rattle.engine.specs.Memory.{wrapped, source, formed, forms, after, read, stepped, ran}
-use Rattle.engine.proofs.Wrapping.{wrapped-fits, sum-fits, pick-small}
+use Rattle.cells.specs.Wrapped.{wrapped}
+use Rattle.engine.specs.Memory.{source, formed, forms, after, read, stepped, ran}
+use Rattle.cells.proofs.Modulo.{wrapped-fits, sum-fits, pick-small}
 use Rattle.engine.proofs.Totals.{Law, totalAt, totals-law, totals-along, total-put, keeps-order, keeps-other, order-below}
 use Rattle.engine.proofs.Runs as Runs
 use Rattle.engine.proofs.Runs.{Final, Sending, piece, Exact, parent-within, global-put, global-within}

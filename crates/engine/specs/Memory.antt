@@ -1,28 +1,16 @@
 -- The contents of every cell of the work area after a step.
-use Prim.Native.Nat.{ℕ, zero, suc, _+_, _-_, _*_, _%_, _^_, _<_}
+use Prim.Native.Nat.{ℕ}
 use mathlib.Core.Path.{_≡_}
 use mathlib.Core.Bool.{Bool, true, false, _&&_}
 use mathlib.Core.List.{List, [], _∷_}
 use lib.Dec.{eqb, ltb, leb}
 use lib.ListN.{length, getD}
-use lib.IntN.{ℤ, pos, negsuc, _+ℤ_}
-use mir.Syntax.{w64}
-use mir.Val.{toZ}
+use lib.IntN.{ℤ, pos, _+ℤ_}
 use Rattle.cube.specs.Boxes.{pick, sumZ, table, put, product, place, position}
 use Rattle.cube.specs.Tree.{lastOf, next}
+use Rattle.cells.specs.Wrapped.{wrapped}
 use Rattle.boards.specs.Grids.{Grid, boards, lead, extent, box, cells, global, index, boardOf, regionOf, cellOf, cellAt}
 use Rattle.boards.specs.Steps.{TreeStep, expand, transfer, finish}
-
--- ---- "Sums in a step are taken modulo 2^64"
-
--- the remainder of a whole number by 2^64, from 0 up
-unfoldable pub residue : ℤ → ℕ
-residue (pos n) = n % 2 ^ 64
-residue (negsuc n) = 2 ^ 64 - 1 - n % 2 ^ 64
-
--- the signed 64-bit number that is equal to z modulo 2^64
-unfoldable pub wrapped : ℤ → ℤ
-wrapped z = toZ w64 (residue z)
 
 -- ---- the array, row-major by axis numbers
 

@@ -12,7 +12,7 @@ use mir.Val.{toZ, ofZ, sel, SFits}
 use mir.Facts.{toZ-ofZ}
 use Rattle.cube.specs.Limits.{pointLimit}
 use Rattle.cube.specs.Boxes.{pick, sumZ}
-use Rattle.engine.specs.Memory.{residue, wrapped}
+use Rattle.cells.specs.Wrapped.{residue, wrapped}
 
 neg-mod : (a b : ℕ) → residue (subℕ a (suc b)) ≡ (a % 2 ^ 64 + (2 ^ 64 - 1 - b % 2 ^ 64)) % 2 ^ 64
 unfolding residue
@@ -22,7 +22,7 @@ neg-mod a b = go (ltb a (suc b)) refl
     go true e = let h = ltb-true a (suc b) e in omega arith
     go false e = let h = ltb-false a (suc b) e in omega arith
 
-residue-add : (a b : ℤ) → residue (a +ℤ b) ≡ (residue a + residue b) % 2 ^ 64
+pub residue-add : (a b : ℤ) → residue (a +ℤ b) ≡ (residue a + residue b) % 2 ^ 64
 unfolding residue
 residue-add (pos m) (pos n) = omega arith
 residue-add (pos m) (negsuc n) = neg-mod m n
@@ -67,7 +67,7 @@ wrapped-sum (suc n) f h e =
 
 -- ---- what 64 bits hold does not wrap
 
-residue-bits : (z : ℤ) → SFits w64 z → residue z ≡ ofZ w64 z
+pub residue-bits : (z : ℤ) → SFits w64 z → residue z ≡ ofZ w64 z
 unfolding residue
 residue-bits (pos n) f = let h : n < 2 ^ 63 = f .sfits in omega arith
 residue-bits (negsuc n) f = let h : n < 2 ^ 63 = f .sfits in omega arith

@@ -1,0 +1,210 @@
+-- Laws of a slice into which values were written.
+use Prim.Native.Nat.{ℕ, zero, suc, _≤_, _<_, _-_, _+_, _*_, _/_, _%_}
+use mathlib.Core.Path.{_≡_, sym, _∙_, refl, ap, ap₂}
+use mathlib.Core.Logic.{_⊎_, inl, inr}
+use mathlib.Core.Bool.{Bool, true, false, _&&_}
+use mathlib.Core.List.{List}
+use native.Mathlib.Omega.{arith}
+use native.Mathlib.Numerals.{add-one}
+use native.Mathlib.Nat.{add-zero, mul-le-mul-right, add-mul, one-mul, mul-assoc}
+use borrow.Author.Tests.{ltb-true, ltb-false, leb-true, leb-false}
+use lib.Dec.{ltb, leb}
+use lib.ListN.{length, getD, set, length-set}
+use lib.Seq.{getD-set-same, getD-set-other, ext-getD}
+use lib.IntN.{ℤ, pos, _+ℤ_}
+use Rattle.cube.specs.Boxes.{pick, sumZ, table}
+use Rattle.cube.proofs.Sums.{by, sum-cong}
+use Rattle.cube.proofs.Boxing.{row-of, rest-of}
+use Rattle.cube.proofs.Tables.{table-of}
+use Rattle.cells.specs.Wrapped.{residue, wrapped}
+use Rattle.cells.specs.Rows.{from, every, written, zeros, addAt, addedTo, axisSums, rowSums, Apart}
+use Rattle.cells.proofs.Modulo.{wrapped-add}
+
+pub length-written : (w : List ℤ) (at n : ℕ) (f : ℕ → ℤ) → length (written w at n f) ≡ length w
+unfolding written
+length-written w at zero f = refl
+length-written w at (suc n) f = length-set (written w at n f) (at + n) (f n) ∙ length-written w at n f
+
+-- a cell before or after those written
+pub outside : (w : List ℤ) (at n : ℕ) (f : ℕ → ℤ) (j : ℕ) → (j < at) ⊎ (at + n ≤ j) → getD (written w at n f) j (pos 0) ≡ getD w j (pos 0)
+unfolding written
+outside w at zero f j h = refl
+outside w at (suc n) f j (inl h) =
+    getD-set-other (written w at n f) (at + n) j (f n) (pos 0) (λ e. omega (arith, e)) ∙ outside w at n f j (inl h)
+outside w at (suc n) f j (inr h) =
+    getD-set-other (written w at n f) (at + n) j (f n) (pos 0) (λ e. omega (arith, e)) ∙ outside w at n f j (inr (omega arith))
+
+-- a cell written
+pub inside : (w : List ℤ) (at n : ℕ) (f : ℕ → ℤ) (i : ℕ) → at + n ≤ length w → i < n → getD (written w at n f) (at + i) (pos 0) ≡ f i
+unfolding written
+inside w at zero f i b h = absurd (omega arith)
+inside w at (suc n) f i b h = go (ltb i n) refl (λ q. inside w at n f i (omega arith) q)
+  where
+    go : (t : Bool) → ltb i n ≡ t → (i < n → getD (written w at n f) (at + i) (pos 0) ≡ f i)
+        → getD (set (written w at n f) (at + n) (f n)) (at + i) (pos 0) ≡ f i
+    go true e r =
+        let q = ltb-true i n e in
+        getD-set-other (written w at n f) (at + n) (at + i) (f n) (pos 0) (λ e. omega (arith, e)) ∙ r q
+    go false e r =
+        let q : i ≡ n = omega (arith, ltb-false i n e) in
+        rw q (getD-set-same (written w at n f) (at + n) (f n) (pos 0) (omega (arith, length-written w at n f)))
+
+-- a list that has the values written, and else the old ones
+pub is-written : (w l : List ℤ) (at n : ℕ) (f : ℕ → ℤ) → length l ≡ length w → at + n ≤ length w
+    → ((i : ℕ) → i < n → getD l (at + i) (pos 0) ≡ f i)
+    → ((j : ℕ) → (j < at) ⊎ (at + n ≤ j) → getD l j (pos 0) ≡ getD w j (pos 0))
+    → l ≡ written w at n f
+is-written w l at n f q b new old = ext-getD (pos 0) l (written w at n f) (q ∙ sym (length-written w at n f)) (λ j h. go j (ltb j at) (ltb j (at + n)) refl refl)
+  where
+    go : (j : ℕ) (s t : Bool) → ltb j at ≡ s → ltb j (at + n) ≡ t → getD l j (pos 0) ≡ getD (written w at n f) j (pos 0)
+    go j true t p q = let h = inl (ltb-true j at p) in old j h ∙ sym (outside w at n f j h)
+    go j false false p q = let h = inr (ltb-false j (at + n) q) in old j h ∙ sym (outside w at n f j h)
+    go j false true p q =
+        let a = ltb-false j at p in
+        let k = ltb-true j (at + n) q in
+        let e : j ≡ at + (j - at) = omega arith in
+        let i : j - at < n = omega arith in
+        rw e (new (j - at) i ∙ sym (inside w at n f (j - at) b i))
+
+-- every cell at once: the values written, and else the old ones
+pub written-table : (w : List ℤ) (at n : ℕ) (f : ℕ → ℤ) → at + n ≤ length w
+    → written w at n f ≡ table (length w) (λ i. pick (leb at i && ltb i (at + n)) (f (i - at)) (getD w i (pos 0)))
+written-table w at n f b = table-of (length w) _ (written w at n f) (pos 0) (length-written w at n f) (λ j h. by (leb at j) (by (ltb j (at + n)) (new j) (after j)) (before j))
+  where
+    new : (j : ℕ) → ltb j (at + n) ≡ true → leb at j ≡ true → getD (written w at n f) j (pos 0) ≡ pick (leb at j && ltb j (at + n)) (f (j - at)) (getD w j (pos 0))
+    new j k l =
+        let a = leb-true at j l in
+        let c = ltb-true j (at + n) k in
+        let i : j - at < n = omega arith in
+        let e : j ≡ at + (j - at) = omega arith in
+        rw (l, k) (ap (λ (i : ℕ). getD (written w at n f) i (pos 0)) e ∙ inside w at n f (j - at) b i)
+
+    after : (j : ℕ) → ltb j (at + n) ≡ false → leb at j ≡ true → getD (written w at n f) j (pos 0) ≡ pick (leb at j && ltb j (at + n)) (f (j - at)) (getD w j (pos 0))
+    after j k l = rw (l, k) (outside w at n f j (inr (ltb-false j (at + n) k)))
+
+    before : (j : ℕ) → leb at j ≡ false → getD (written w at n f) j (pos 0) ≡ pick (leb at j && ltb j (at + n)) (f (j - at)) (getD w j (pos 0))
+    before j l = rw l (outside w at n f j (inl (leb-false at j l)))
+
+-- values that are equal
+pub same : (w : List ℤ) (at n : ℕ) (f g : ℕ → ℤ) → ((i : ℕ) → i < n → f i ≡ g i) → written w at n f ≡ written w at n g
+unfolding written
+same w at zero f g h = refl
+same w at (suc n) f g h = ap₂ (λ (l : List ℤ) (x : ℤ). set l (at + n) x) (same w at n f g (λ i q. h i (omega arith))) (h n (omega arith))
+
+-- one value more
+pub one-more : (w : List ℤ) (at n : ℕ) (f : ℕ → ℤ) (x : ℤ) → x ≡ f n → set (written w at n f) (at + n) x ≡ written w at (n + 1) f
+unfolding written
+one-more w at n f x e = rw (add-one, e)
+
+-- k values more, on the right
+pub joined : (w : List ℤ) (at n k : ℕ) (f g : ℕ → ℤ) → ((i : ℕ) → i < k → g i ≡ f (n + i)) → written (written w at n f) (at + n) k g ≡ written w at (n + k) f
+unfolding written
+joined w at n zero f g h = rw add-zero
+joined w at n (suc k) f g h =
+    let e : at + n + k ≡ at + (n + k) = omega arith in
+    let s : n + suc k ≡ suc (n + k) = omega arith in
+    rw (s, e, h k (omega arith)) (ap (λ (l : List ℤ). set l (at + (n + k)) (f (n + k))) (joined w at n k f g (λ i q. h i (omega arith))))
+
+-- the same cells, twice
+pub over : (w : List ℤ) (at n : ℕ) (f g : ℕ → ℤ) → at + n ≤ length w → written (written w at n f) at n g ≡ written w at n g
+over w at n f g b =
+    let v = written w at n f in
+    let q = length-written w at n f in
+    is-written w (written v at n g) at n g (length-written v at n g ∙ q) b
+    (λ i h. inside v at n g i (omega (arith, q)) h)
+    (λ j h. outside v at n g j h ∙ outside w at n f j h)
+
+-- one cell more of a row that is added
+pub added-more : (w : List ℤ) (at n : ℕ) (p : ℕ → ℤ) (x : ℤ) → x ≡ p n → addAt (written w at n (addedTo w at p)) (at + n) x ≡ written w at (n + 1) (addedTo w at p)
+unfolding addedTo from
+added-more w at n p x e = one-more w at n (addedTo w at p) _ (ap₂ (λ (a b : ℤ). wrapped (a +ℤ b)) (outside w at n (addedTo w at p) (at + n) (inr (omega arith))) e)
+
+-- a row's cell is as before while cells apart from it are written
+pub unread : (w : List ℤ) (a b n : ℕ) (f : ℕ → ℤ) (i : ℕ) → Apart a b n → i < n → getD (written w b i f) (a + i) (pos 0) ≡ from w a i
+unfolding from
+unread w a b n f i (inl h) q = outside w b i f (a + i) (inl (omega arith))
+unread w a b n f i (inr h) q = outside w b i f (a + i) (inr (omega arith))
+
+-- one term more of a sum
+pub sum-more : (n : ℕ) (f : ℕ → ℤ) (s x r : ℤ) → s ≡ wrapped (sumZ n f) → x ≡ f n → r ≡ wrapped (s +ℤ x) → r ≡ wrapped (sumZ (n + 1) f)
+unfolding sumZ
+sum-more n f s x r p q e = rw (add-one, e, p, q) (wrapped-add (sumZ n f) (f n))
+
+-- one of e rows of n cells lies within
+pub row-fits : (m e n : ℕ) → m < e → m * n + n ≤ e * n
+row-fits m e n h =
+    let q : m + 1 ≤ e = omega arith in
+    let r = mul-le-mul-right n q in
+    omega (arith, r, add-mul m 1 n, one-mul n)
+
+-- no rows yet
+pub no-rows : (w : List ℤ) (at n : ℕ) (p : ℕ → ℤ) → written w at n zeros ≡ written w at n (rowSums p 0 n)
+unfolding zeros rowSums sumZ wrapped residue
+no-rows w at n p = same w at n zeros (rowSums p 0 n) (λ i h. refl)
+
+-- one row more, of the values q
+pub rows-more : (w : List ℤ) (at n m : ℕ) (p q : ℕ → ℤ) → at + n ≤ length w → ((i : ℕ) → i < n → q i ≡ p (m * n + i))
+    → written (written w at n (rowSums p m n)) at n (addedTo (written w at n (rowSums p m n)) at q) ≡ written w at n (rowSums p (m + 1) n)
+unfolding addedTo from rowSums
+rows-more w at n m p q b h =
+    over w at n _ _ b
+    ∙ same w at n _ _ (λ i k. sum-more m (λ m. p (m * n + i)) _ (q i) _ (inside w at n (rowSums p m n) i b k) (h i k) refl)
+
+-- cell i of block o is the child's cell o * n + i
+pub block-cell : (o e n i : ℕ) (p q : ℕ → ℤ) → i < n → ((m : ℕ) → m < e → q (m * n + i) ≡ p (o * (e * n) + (m * n + i)))
+    → rowSums q e n i ≡ axisSums p e n (o * n + i)
+unfolding rowSums axisSums
+block-cell o e n i p q h k = rw (row-of o h, rest-of o h) (ap wrapped (sum-cong e (λ m q. k m q ∙ ap p (at m))))
+  where
+    at : (m : ℕ) → o * (e * n) + (m * n + i) ≡ (o * e + m) * n + i
+    at m = omega (arith, add-mul (o * e) m n, mul-assoc o e n)
+
+-- one block more, of the values q
+pub block-more : (w : List ℤ) (at o e n : ℕ) (p q : ℕ → ℤ) → ((i : ℕ) → i < n → q i ≡ axisSums p e n (o * n + i))
+    → written (written w at (o * n) (axisSums p e n)) (at + o * n) n q ≡ written w at ((o + 1) * n) (axisSums p e n)
+block-more w at o e n p q h = rw (add-mul, one-mul) (joined w at (o * n) n (axisSums p e n) q h)
+
+-- a cleared row is the sum of no rows
+pub rows-start : (w : List ℤ) (at n : ℕ) (p : ℕ → ℤ) → at + n ≤ length w → written w at n zeros ≡ written (written w at n zeros) at n (rowSums p 0 n)
+rows-start w at n p b = no-rows w at n p ∙ sym (over w at n zeros (rowSums p 0 n) b)
+
+-- the rows' own cells were there before the clearing
+pub rows-end : (w : List ℤ) (a at e n : ℕ) → at + n ≤ length w → a + e * n ≤ at
+    → written (written w at n zeros) at n (rowSums (from (written w at n zeros) a) e n) ≡ written w at n (rowSums (from w a) e n)
+unfolding rowSums from
+rows-end w a at e n b h = over w at n zeros _ b ∙ same w at n _ _ (λ i k. ap wrapped (sum-cong e (λ m q. outside w at n zeros _ (inl (omega (arith, row-fits m e n q))))))
+
+-- a cell left of those written, counted from two places
+pub left-of : (w : List ℤ) (at n : ℕ) (f : ℕ → ℤ) (a b i : ℕ) → a + (b + i) < at → from (written w at n f) (a + b) i ≡ from w a (b + i)
+unfolding from
+left-of w at n f a b i h = let e : a + b + i ≡ a + (b + i) = omega arith in rw e (outside w at n f (a + (b + i)) (inl h))
+
+-- the sum down a column of rows that stand left of the cells written
+pub column-cell : (w : List ℤ) (a at e n i : ℕ) (f : ℕ → ℤ) → a + e * n ≤ at → i < n
+    → wrapped (sumZ e (every (written w at i f) (a + i) n)) ≡ rowSums (from w a) e n i
+unfolding rowSums every from
+column-cell w a at e n i f b h = ap wrapped (sum-cong e (λ m k. cell m k))
+  where
+    cell : (m : ℕ) → m < e → getD (written w at i f) (a + i + m * n) (pos 0) ≡ getD w (a + (m * n + i)) (pos 0)
+    cell m k =
+        let r = row-fits m e n k in
+        let q : a + i + m * n ≡ a + (m * n + i) = omega arith in
+        rw q (outside w at i f (a + (m * n + i)) (inl (omega arith)))
+
+-- every single cell
+pub every-one : (w a : List ℤ) (src step at n : ℕ) → step ≡ 1 → written w at n (addedTo w at (from a src)) ≡ written w at n (addedTo w at (every a src step))
+unfolding addedTo from every
+every-one w a src step at n q = rw q (same w at n _ _ (λ i h. let e : i ≡ i * 1 = omega arith in ap (λ (k : ℕ). wrapped (getD w (at + i) (pos 0) +ℤ getD a (src + k) (pos 0))) e))
+
+-- the child's cell o where the last axis is summed out, from a run left of the cells written
+pub run-cell : (w : List ℤ) (a at e o : ℕ) (f : ℕ → ℤ) → a + (o * e + e) ≤ at → wrapped (sumZ e (every (written w at o f) (a + o * e) 1)) ≡ axisSums (from w a) e 1 o
+unfolding axisSums every from
+run-cell w a at e o f b =
+    let d : o / 1 ≡ o = omega arith in
+    let r : o % 1 ≡ 0 = omega arith in
+    rw (d, r) (ap wrapped (sum-cong e (λ m k. cell m k)))
+  where
+    cell : (m : ℕ) → m < e → getD (written w at o f) (a + o * e + m * 1) (pos 0) ≡ getD w (a + ((o * e + m) * 1 + 0)) (pos 0)
+    cell m k =
+        let q : a + o * e + m * 1 ≡ a + ((o * e + m) * 1 + 0) = omega arith in
+        rw q (outside w at o f (a + ((o * e + m) * 1 + 0)) (inl (omega arith)))

@@ -1,0 +1,82 @@
+-- `sum_blocks` meets its contract. The invariant: the first o blocks of the child are written.
+use borrow.Author.Needs.{needs}
+use Prim.Native.Nat.{_≤_, _-_, _*_}
+use mathlib.Core.Path.{_≡_, refl}
+use native.Mathlib.Omega.{arith}
+use lib.ListN.{length}
+use Rattle.cells.specs.Rows.{from, written, axisSums}
+use Rattle.cells.proofs.Writing.{row-fits, block-more, block-cell, left-of}
+use native.Mathlib.Nat.{zero-mul}
+use Rattle.cells.proofs.rows.sum_blocks.Statement.{statement}
+use Rattle.cells.proofs.rows.sum_blocks.Tie as tie
+
+abbrev Inv-loop : tie.InvT-loop
+Inv-loop work₀ src dst outer e inner o₀ work o = (o ≤ outer) × (length work ≡ length work₀) × (work ≡ written work₀ dst (o * inner) (axisSums (from work₀ src) e inner))
+
+abbrev μ-loop : tie.MeasureT-loop
+μ-loop work₀ src dst outer e inner o₀ work o = outer - o
+
+loop-holds : tie.Need-loop-holds Inv-loop μ-loop
+unfolding written
+loop-holds c = (search needs, refl, rw zero-mul)
+
+mul-sum-block : tie.Need-mul-sum-block Inv-loop μ-loop
+mul-sum-block c = let l = c .before .before in let a = l .before .args in let r = row-fits (l .loop .o) (a .outer) (a .e * a .inner) (omega arith) in let s = row-fits (l .loop .o) (a .outer) (a .inner) (omega arith) in omega arith
+
+mul-sum-block-2 : tie.Need-mul-sum-block-2 Inv-loop μ-loop
+mul-sum-block-2 c = let l = c .before .before in let a = l .before .args in let r = row-fits (l .loop .o) (a .outer) (a .e * a .inner) (omega arith) in let s = row-fits (l .loop .o) (a .outer) (a .inner) (omega arith) in omega arith
+
+add-sum-block : tie.Need-add-sum-block Inv-loop μ-loop
+add-sum-block c = let l = c .before .before in let a = l .before .args in let r = row-fits (l .loop .o) (a .outer) (a .e * a .inner) (omega arith) in let s = row-fits (l .loop .o) (a .outer) (a .inner) (omega arith) in omega arith
+
+mul-sum-block-3 : tie.Need-mul-sum-block-3 Inv-loop μ-loop
+mul-sum-block-3 c = let l = c .before .before in let a = l .before .args in let r = row-fits (l .loop .o) (a .outer) (a .e * a .inner) (omega arith) in let s = row-fits (l .loop .o) (a .outer) (a .inner) (omega arith) in omega arith
+
+add-sum-block-2 : tie.Need-add-sum-block-2 Inv-loop μ-loop
+add-sum-block-2 c = let l = c .before .before in let a = l .before .args in let r = row-fits (l .loop .o) (a .outer) (a .e * a .inner) (omega arith) in let s = row-fits (l .loop .o) (a .outer) (a .inner) (omega arith) in omega arith
+
+sum-block-requires : tie.Need-sum-block-requires Inv-loop μ-loop
+sum-block-requires c κs = let l = c .before .before in let a = l .before .args in let r = row-fits (l .loop .o) (a .outer) (a .e * a .inner) (omega arith) in let s = row-fits (l .loop .o) (a .outer) (a .inner) (omega arith) in (omega arith, omega arith)
+
+add-o : tie.Need-add-o Inv-loop μ-loop
+add-o c = search needs
+
+loop-less : tie.Need-loop-less Inv-loop μ-loop
+loop-less c = search needs
+
+loop-again : tie.Need-loop-again Inv-loop μ-loop
+loop-again c =
+    let l = c .before .before .before .before in
+    let a = l .before .args in
+    let r = row-fits (l .loop .o) (a .outer) (a .e * a .inner) (omega arith) in
+    let s = row-fits (l .loop .o) (a .outer) (a .inner) (omega arith) in (
+      search needs,
+      search needs,
+      rw (c .before .sum-block .ensures, l .loop .inv .2)
+          (block-more _ _ _ _ _ _ _ (λ i h. block-cell _ _ _ _ _ _ h (λ m k. left-of _ _ _ _ _ _ _ (omega (arith, row-fits m (a .e) (a .inner) k))))),
+    )
+
+same-length : tie.Need-same-length Inv-loop μ-loop
+same-length c = search needs
+
+returns : tie.Need-returns Inv-loop μ-loop
+returns c = let q : c .before .loop .o ≡ c .before .before .args .outer = omega arith in rw q at (c .before .loop .inv .2)
+
+pub sum-blocks-spec : {M : Type 1} → statement M
+sum-blocks-spec =
+    tie.close
+    (tie.spec
+    Inv-loop
+    μ-loop
+    loop-holds
+    mul-sum-block
+    mul-sum-block-2
+    add-sum-block
+    mul-sum-block-3
+    add-sum-block-2
+    sum-block-requires
+    add-o
+    loop-less
+    loop-again
+    same-length
+    returns)

@@ -1,0 +1,10 @@
+-- Names every definition, so that a fact that computes with them says `unfolding computing`.
+use Prim.Native.Nat.{ℕ}
+use Rattle.cells.specs.Wrapped
+use Rattle.cells.specs.Rows
+use Rattle.cells.specs.Strides
+use Rattle.cube.specs.Computing as cube
+
+unfoldable pub computing : ℕ
+unfolding Wrapped.residue Wrapped.wrapped Rows.from Rows.every Rows.written Rows.zeros Rows.addedTo Rows.axisSums Rows.rowSums Rows.combs Strides.boxSize Strides.offset Strides.boxCell cube.computing
+computing = 0

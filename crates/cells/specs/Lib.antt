@@ -1,0 +1,4 @@
+pub mod Wrapped
+pub mod Rows
+pub mod Strides
+pub mod Computing

@@ -1,0 +1,3 @@
+pub mod boxes;
+pub mod rows;
+pub mod wrapping;
