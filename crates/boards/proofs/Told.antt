@@ -110,3 +110,7 @@ module _ (g : Grid) where
         go (some (expand Z)) t = clashing (cc)
         go (some (transfer Z s r k)) t = clashing (cc)
         go (some (finish Z)) t = clashing (cc)
+
+-- a transfer of the list
+pub known-step : (g : Grid) (at : ℕ) (Z : List ℕ) (s r n : ℕ) → getElem? (steps g) at ≡ some (transfer Z s r n) → Known g Z s r n
+known-step g at Z s r n e = every-get (Shape g) (steps g) at (transfer Z s r n) (shapes g) e

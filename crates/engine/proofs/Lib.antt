@@ -14,3 +14,4 @@ pub mod Positions
 pub mod Claimed
 pub mod Unwrapped
 pub mod Refusing
+pub mod Moved

@@ -19,9 +19,10 @@ use Rattle.planner.specs.Refusals.{planChecks, planRefusal}
 use Rattle.planner.specs.declared.types.Plan.{Plan}
 use Rattle.planner.specs.Accepted.{Accepted}
 use Rattle.planner.proofs.PricingLaws.{few-axes, power-small}
-use Rattle.boards.specs.Grids.{gridOf, share}
+use Rattle.boards.specs.Grids.{gridOf, boards, share}
 use Rattle.boards.specs.Finding.{planGrid}
 use Rattle.boards.specs.Answers.{pastEnd}
+use Rattle.boards.proofs.Counting.{board-count}
 use Rattle.boards.proofs.Refusing.{plan-due, plan-passed, boards-shifted}
 use Rattle.engine.specs.Entries.{badArray, workCells, smallArea, stepChecks, stepRefusal}
 
@@ -79,3 +80,7 @@ module _ (q : Plan) (array work at : ℕ) where
         pub step-passed : at ≤ stepCount (listsOf q) → 0 ≡ stepRefusal q array work at
         unfolding first badArray smallArea pastEnd
         step-passed k = rw (others, eq-eqb array (points (listsOf q .lengths)) (sym e), le-ltb work (workCells (listsOf q)) l, le-ltb (stepCount (listsOf q)) at k) refl
+
+-- the same by the grid
+pub area-boards : (q : Plan) → Accepted q → workCells (listsOf q) ≡ boards (planGrid q) * share (planGrid q)
+area-boards q ok = sym (area-plan q) ∙ ap (λ b. b * share (planGrid q)) (sym (board-count (listsOf q) (ok .sound)))

@@ -1,0 +1,20 @@
+-- What the code that takes one step asks.
+use Prim.Native.Nat.{ℕ, _≤_, _<_}
+use mathlib.Core.Path.{_≡_}
+use mathlib.Core.Bool.{true}
+use mathlib.Core.Option.{some}
+use mathlib.Core.List.{List}
+use lib.ListN.{getElem?}
+use Rattle.planner.specs.Plans.{listsOf}
+use Rattle.planner.specs.Refusals.{planRefusal}
+use Rattle.planner.specs.declared.types.Plan.{Plan}
+use Rattle.boards.specs.Steps.{TreeStep, steps}
+use Rattle.boards.specs.Finding.{planGrid}
+use Rattle.engine.specs.Entries.{workCells}
+
+-- m is a step of the plan's list, and a work area of n cells is large enough
+pub record Taking (q : Plan) (m : TreeStep) (n : ℕ) : Type 0 where
+  pub passed : planRefusal q ≡ 0
+  pub at : ℕ
+  pub listed : getElem? (steps (planGrid q)) at ≡ some m
+  pub room : workCells (listsOf q) ≤ n
