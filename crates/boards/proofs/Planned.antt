@@ -3,7 +3,7 @@ use Prim.Native.Nat.{ℕ, zero, suc, _+_, _-_, _*_, _/_, _%_, _^_, _≤_, _<_, m
 use mathlib.Core.Path.{_≡_, sym, _∙_, refl, ap, ap₂, fun-ext}
 use mathlib.Core.Bool.{Bool, true, false, _||_, not}
 use mathlib.Core.List.{List, [], _∷_}
-use native.Mathlib.Nat.{zero-add, add-zero, mul-one, one-mul, mul-comm, div-div-eq-div-mul, div-one, le-refl, mul-le-mul}
+use native.Mathlib.Nat.{zero-add, sub-zero, add-zero, mul-one, one-mul, mul-comm, div-div-eq-div-mul, div-one, le-refl, mul-le-mul}
 use native.Mathlib.Numerals.{add-one}
 use native.Mathlib.Omega.{arith}
 use lib.Dec.{eqb}
@@ -50,7 +50,7 @@ module _ (g : Grid) (mask d : ℕ) (h : d < g .axes) where
   pub summed-is : keeps mask (g .order d) ≡ false → has (summed g mask) d ≡ true
   summed-is t = summed-has ∙ ap not t
 
-inner-from : (e : ℕ → ℕ) (n d : ℕ) → inner e n 0 d ≡ product e (n - (d + 1)) (d + 1)
+pub inner-from : (e : ℕ → ℕ) (n d : ℕ) → inner e n 0 d ≡ product e (n - (d + 1)) (d + 1)
 unfolding inner
 inner-from e n d = let z : 0 + n - suc d ≡ n - (d + 1) = omega arith in let y : suc d ≡ d + 1 = omega arith in ap₂ (product e) z y
 
@@ -132,8 +132,11 @@ board-same g x y h = place-cong (g .axes) 0 (λ i l r. refl) (λ i l r. h i (ome
 
 -- ---- cells, axis by axis
 
-pub cells-next : (g : Grid) (Y : List ℕ) (b d : ℕ) → product (box g Y b) d 0 * box g Y b d ≡ product (box g Y b) (d + 1) 0
-cells-next g Y b d = sym (product-last (box g Y b) d 0 ∙ ap (λ x. product (box g Y b) d 0 * box g Y b x) (zero-add d))
+pub cells-next : (g : Grid) (Y : List ℕ) (b first d : ℕ) → first ≤ d → product (box g Y b) (d - first) first * box g Y b d ≡ product (box g Y b) (d + 1 - first) first
+cells-next g Y b first d l =
+    let z : d + 1 - first ≡ d - first + 1 = omega arith in
+    let y : first + (d - first) ≡ d = omega arith in
+    sym (ap (λ n. product (box g Y b) n first) z ∙ product-last (box g Y b) (d - first) first ∙ ap (λ x. product (box g Y b) (d - first) first * box g Y b x) y)
 
 module _ (g : Grid) (ok : Lawful g) (Y : List ℕ) (b : ℕ) (in-rack : b < boards g) where
   -- they are no more than the points
@@ -151,13 +154,17 @@ module _ (g : Grid) (ok : Lawful g) (Y : List ℕ) (b : ℕ) (in-rack : b < boar
   unfolding box
   box-inside d h = by (has Y d) (λ t. rw (kept-has (extent g b) Y d t) (len-some d h)) (λ t. rw (kept-out (extent g b) Y d t) (extent-inside d h))
 
-  pub cells-inside : (d : ℕ) → d ≤ g .axes → product (box g Y b) d 0 ≤ product (g .len) (g .axes) 0
-  cells-inside d h =
-      let a = product-le (box g Y b) (g .len) d 0 (λ i l r. box-inside i (omega arith)) in
-      let n : g .axes ≡ d + (g .axes - d) = omega arith in
-      let e : product (g .len) (g .axes) 0 ≡ product (g .len) d 0 * product (g .len) (g .axes - d) (0 + d) = ap (λ n. product (g .len) n 0) n ∙ product-append (g .len) d (g .axes - d) 0 in
-      let s = product-pos (g .len) (g .axes - d) (0 + d) (λ i l r. len-some i (omega arith)) in
-      let t = mul-le-mul {n₁ = product (g .len) d 0} {m₁ = 1} {n₂ = product (g .len) d 0} {m₂ = product (g .len) (g .axes - d) (0 + d)} (le-refl _) s in
+  -- of the m axes from place `first` on
+  pub cells-inside : (m first : ℕ) → first + m ≤ g .axes → product (box g Y b) m first ≤ product (g .len) (g .axes) 0
+  cells-inside m first h =
+      let a = product-le (box g Y b) (g .len) m first (λ i l r. box-inside i (omega arith)) in
+      let n : g .axes ≡ first + (m + (g .axes - (first + m))) = omega arith in
+      let p = product-pos (g .len) first 0 (λ i l r. len-some i (omega arith)) in
+      let s = product-pos (g .len) (g .axes - (first + m)) (first + m) (λ i l r. len-some i (omega arith)) in
+      let e : product (g .len) (g .axes) 0 ≡ product (g .len) first 0 * (product (g .len) m first * product (g .len) (g .axes - (first + m)) (first + m)) =
+      ap (λ n. product (g .len) n 0) n ∙ product-append (g .len) first (m + (g .axes - (first + m))) 0 ∙ ap (λ x. product (g .len) first 0 * x) (ap (product (g .len) (m + (g .axes - (first + m)))) (zero-add first) ∙ product-append (g .len) m (g .axes - (first + m)) first) in
+      let t = mul-le-mul {n₁ = product (g .len) m first} {m₁ = 1} {n₂ = product (g .len) m first} {m₂ = product (g .len) (g .axes - (first + m)) (first + m)} (le-refl _) s in
+      let u = mul-le-mul {n₁ = 1} {m₁ = product (g .len) m first * product (g .len) (g .axes - (first + m)) (first + m)} {n₂ = product (g .len) first 0} {m₂ = product (g .len) m first * product (g .len) (g .axes - (first + m)) (first + m)} p (le-refl _) in
       omega arith
 
 -- ---- an accepted plan
@@ -222,10 +229,10 @@ module _ (q : Plan) (ok : Accepted q) where
         let b = boards-few q ok in
         omega arith
 
-  pub cells-small : (Y : List ℕ) (b d : ℕ) → b < boards (planGrid q) → d ≤ q .axes → product (box (planGrid q) Y b) d 0 ≤ pointLimit
-  cells-small Y b d h l =
+  pub cells-small : (Y : List ℕ) (b first d : ℕ) → b < boards (planGrid q) → first ≤ d → d ≤ q .axes → product (box (planGrid q) Y b) (d - first) first ≤ pointLimit
+  cells-small Y b first d h l r =
       let e = axes-same q ok in
-      let a = cells-inside (planGrid q) (lawful q ok) Y b h d (omega arith) in
+      let a = cells-inside (planGrid q) (lawful q ok) Y b h (d - first) first (omega arith) in
       let p = points-few in
       omega arith
 
@@ -372,27 +379,29 @@ lead-turn q mask b d before t i h =
 
 -- ---- the cells of a board with given labels, counted axis by axis
 
-pub record CellsTo (q : Plan) (mask : ℕ) (labels : List ℕ) (count d : ℕ) : Type 0 where
-  pub counted : count ≡ product (box (planGrid q) (summedIn q mask) (boardWith (planGrid q) (λ d. getD labels d 0))) d 0
+-- from place `first` up to place d
+pub record CellsTo (q : Plan) (mask : ℕ) (labels : List ℕ) (first count d : ℕ) : Type 0 where
+  pub counted : count ≡ product (box (planGrid q) (summedIn q mask) (boardWith (planGrid q) (λ d. getD labels d 0))) (d - first) first
   pub fits : count ≤ pointLimit
 
-pub cells-begin : (q : Plan) (mask : ℕ) (labels : List ℕ) → CellsTo q mask labels 1 0
-cells-begin q mask labels = record { counted = unfold product in refl; fits = omega arith }
+pub cells-begin : (q : Plan) (mask : ℕ) (labels : List ℕ) (first : ℕ) → CellsTo q mask labels first 1 first
+cells-begin q mask labels first = let z : first - first ≡ 0 = omega arith in record { counted = rw z (unfold product in refl); fits = omega arith }
 
-module _ (q : Plan) (ok : Accepted q) (mask : ℕ) (labels : List ℕ) where
-  pub cells-turn : Labels q labels → (count d : ℕ) → d < q .axes → CellsTo q mask labels count d → CellsTo q mask labels (count * kept (summedIn q mask) (λ e. planGrid q .start e (suc (getD labels d 0)) - planGrid q .start e (getD labels d 0)) d) (d + 1)
-  cells-turn fits count d h c =
+module _ (q : Plan) (ok : Accepted q) (mask : ℕ) (labels : List ℕ) (first : ℕ) where
+  pub cells-turn : Labels q labels → (count d : ℕ) → first ≤ d → d < q .axes → CellsTo q mask labels first count d → CellsTo q mask labels first (count * kept (summedIn q mask) (λ e. planGrid q .start e (suc (getD labels d 0)) - planGrid q .start e (getD labels d 0)) d) (d + 1)
+  cells-turn fits count d l h c =
       let Y = summedIn q mask in
       let b = boardWith (planGrid q) (λ d. getD labels d 0) in
-      let n : count * kept Y (λ e. planGrid q .start e (suc (getD labels d 0)) - planGrid q .start e (getD labels d 0)) d ≡ product (box (planGrid q) Y b) (d + 1) 0 =
-      ap (λ x. count * x) (extent-slot q ok labels fits Y d h) ∙ ap (λ x. x * box (planGrid q) Y b d) (c .counted) ∙ cells-next (planGrid q) Y b d in
-      record { counted = n; fits = rw n (cells-small q ok Y b (d + 1) (board-in q ok labels fits) (omega arith)) }
+      let n : count * kept Y (λ e. planGrid q .start e (suc (getD labels d 0)) - planGrid q .start e (getD labels d 0)) d ≡ product (box (planGrid q) Y b) (d + 1 - first) first =
+      ap (λ x. count * x) (extent-slot q ok labels fits Y d h) ∙ ap (λ x. x * box (planGrid q) Y b d) (c .counted) ∙ cells-next (planGrid q) Y b first d l in
+      record { counted = n; fits = rw n (cells-small q ok Y b first (d + 1) (board-in q ok labels fits) (omega arith) (omega arith)) }
 
-  pub cells-end : (count d : ℕ) → d ≡ q .axes → CellsTo q mask labels count d → (count ≡ cells (planGrid q) (summedIn q mask) (boardWith (planGrid q) (λ d. getD labels d 0))) × (count ≤ pointLimit)
+  pub cells-end : (count d e : ℕ) → d ≡ e → CellsTo q mask labels first count d → (count ≡ product (box (planGrid q) (summedIn q mask) (boardWith (planGrid q) (λ d. getD labels d 0))) (e - first) first) × (count ≤ pointLimit)
+  cells-end count d e s c = (c .counted ∙ ap (λ n. product (box (planGrid q) (summedIn q mask) (boardWith (planGrid q) (λ d. getD labels d 0))) (n - first) first) s, c .fits)
+
+  pub cells-whole : (count : ℕ) → count ≡ product (box (planGrid q) (summedIn q mask) (boardWith (planGrid q) (λ d. getD labels d 0))) (q .axes - 0) 0 → count ≡ cells (planGrid q) (summedIn q mask) (boardWith (planGrid q) (λ d. getD labels d 0))
   unfolding cells
-  cells-end count d e c =
-      let a = axes-same q ok in
-      (c .counted ∙ ap (λ n. product (box (planGrid q) (summedIn q mask) (boardWith (planGrid q) (λ d. getD labels d 0))) n 0) (e ∙ sym a), c .fits)
+  cells-whole count e = e ∙ ap (λ n. product (box (planGrid q) (summedIn q mask) (boardWith (planGrid q) (λ d. getD labels d 0))) n 0) (sub-zero (q .axes) ∙ sym (axes-same q ok))
 
 -- ---- a board's own labels
 

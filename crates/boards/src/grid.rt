@@ -5,9 +5,10 @@ ghost use mathlib.Core.Bool.{_||_, not};
 ghost use lib.Dec.{eqb};
 ghost use lib.ListN.{getD, length};
 ghost use Rattle.cube.specs.Limits.{lengthLimit, pointLimit};
+ghost use Rattle.cube.specs.Boxes.{product};
 ghost use Rattle.cube.specs.Tree.{has, kept, next};
 ghost use Rattle.planner.specs.Refusals.{planRefusal};
-ghost use Rattle.boards.specs.Grids.{boards, boardWith, label, lead, cells, share, index};
+ghost use Rattle.boards.specs.Grids.{boards, boardWith, label, lead, box, cells, share, index};
 ghost use Rattle.boards.specs.Finding.{planGrid, summedIn, leads, leadLabel, Labels};
 use crate::counts::parts_of;
 use cube::types::Choice;
@@ -116,19 +117,27 @@ pub fn is_lead(plan: Plan, choice: Choice, board: u64) -> bool
     true
 }
 
-// How many cells of a choice the board with these labels has.
-pub fn cells_with(plan: Plan, choice: Choice, labels: [u64; 8]) -> u64
-    requires { ⌜ (planRefusal plan ≡ 0) × (Labels plan labels) ⌝ }
-    ensures { λ r. ⌜ (r ≡ cells (planGrid plan) (summedIn plan (choice .mask)) (boardWith (planGrid plan) (λ d. getD labels d 0))) × (r ≤ pointLimit) ⌝ }
+// How many cells of a choice the axes from place `first` up to place `end` make on the board with these labels.
+pub fn cells_between(plan: Plan, choice: Choice, labels: [u64; 8], first: usize, end: usize) -> u64
+    requires { ⌜ (planRefusal plan ≡ 0) × (Labels plan labels) × (first ≤ end) × (end ≤ plan .axes) ⌝ }
+    ensures { λ r. ⌜ (r ≡ product (box (planGrid plan) (summedIn plan (choice .mask)) (boardWith (planGrid plan) (λ d. getD labels d 0))) (end - first) first) × (r ≤ pointLimit) ⌝ }
 {
     let mut count: u64 = 1;
-    let mut d: usize = 0;
-    while d < plan.axes as usize {
+    let mut d = first;
+    while d < end {
         let extent = kept_extent(plan, choice, d, labels[d]);
         count = count * extent;
         d += 1;
     }
     count
+}
+
+// And all of them.
+pub fn cells_with(plan: Plan, choice: Choice, labels: [u64; 8]) -> u64
+    requires { ⌜ (planRefusal plan ≡ 0) × (Labels plan labels) ⌝ }
+    ensures { λ r. ⌜ (r ≡ cells (planGrid plan) (summedIn plan (choice .mask)) (boardWith (planGrid plan) (λ d. getD labels d 0))) × (r ≤ pointLimit) ⌝ }
+{
+    cells_between(plan, choice, labels, 0, plan.axes as usize)
 }
 
 // How many cells of a choice a board has.

@@ -1,78 +1,22 @@
-use native.Mathlib.Omega.{arith}
 use Rattle.planner.proofs.Accepting.{passed-accepted}
+use native.Mathlib.Omega.{arith}
+use native.Mathlib.Nat.{le-refl}
+use Rattle.boards.proofs.Planned.{cells-whole}
 use borrow.Author.Needs.{needs}
-use Prim.Native.Nat.{ℕ, _+_, _-_, _*_, _≤_, _<_}
-use mathlib.Core.Path.{_≡_, refl, sym, ap, _∙_}
-use native.Mathlib.Nat.{mul-le-mul}
-use lib.ListN.{getD}
-use Rattle.planner.specs.Accepted.{Accepted}
-use Rattle.planner.proofs.PricingLaws.{few-axes}
-use Rattle.boards.specs.Grids.{boardWith, box}
-use Rattle.boards.specs.Finding.{planGrid, summedIn, Labels}
-use Rattle.boards.proofs.Tallied.{axes-same}
-use Rattle.boards.proofs.Planned.{CellsTo, cells-begin, cells-turn, cells-end}
 use Rattle.boards.proofs.grid.cells_with.Statement.{statement}
 use Rattle.boards.proofs.grid.cells_with.Tie as tie
 
-abbrev Inv-loop : tie.InvT-loop
-Inv-loop plan choice labels count₀ d₀ count d = (Accepted plan) × (Labels plan labels) × (d ≤ plan .axes) × CellsTo plan (choice .mask) labels count d
+-- src/grid.rt:140:44
+cast-cells-between : tie.Need-cast-cells-between
+cast-cells-between c = search needs
 
-abbrev μ-loop : tie.MeasureT-loop
-μ-loop plan choice labels count₀ d₀ count d = plan .axes - d
+-- src/grid.rt:140:5
+cells-between-requires : tie.Need-cells-between-requires
+cells-between-requires c κs = let s = c .before in (s .pre .0, s .pre .1, omega arith, le-refl _)
 
--- src/grid.rt:114:5
-loop-holds : tie.Need-loop-holds Inv-loop μ-loop
-loop-holds c = let gd = c .good .0 .1 .1 .1 .1 in let ok = passed-accepted (c .args .plan) (gd .0 .1 .0 .1) (gd .1 .0 .1 .0 .1) (gd .1 .1 .0 .1 .0 .1) (c .pre .0) in (ok, c .pre .1, omega arith, cells-begin (c .args .plan) (c .args .choice .mask) (c .args .t3))
-
--- src/grid.rt:114:15
-cast-if1 : tie.Need-cast-if1 Inv-loop μ-loop
-cast-if1 c = search needs
-
--- src/grid.rt:115:51
-mul-kept-extent : tie.Need-mul-kept-extent Inv-loop μ-loop
-mul-kept-extent c = let z = c .before .before in let f = few-axes (z .loop .inv .0) in omega (arith, c .if1 .taken)
-
--- src/grid.rt:115:51
-array-read-kept-extent : tie.Need-array-read-kept-extent Inv-loop μ-loop
-array-read-kept-extent c = let z = c .before .before in let f = few-axes (z .loop .inv .0) in omega (arith, c .if1 .taken)
-
--- src/grid.rt:115:13
-kept-extent-requires : tie.Need-kept-extent-requires Inv-loop μ-loop
-kept-extent-requires c κs = let z = c .before .before in (z .before .pre .0, c .if1 .taken, z .before .pre .1 (z .loop .d) (c .if1 .taken))
-
--- src/grid.rt:116:17
-mul-count : tie.Need-mul-count Inv-loop μ-loop
-mul-count c = let z = c .before .before .before in let i = z .loop .inv in let m = mul-le-mul (i .3 .fits) (c .kept-extent .ensures .1) in omega arith
-
--- src/grid.rt:117:9
-add-d : tie.Need-add-d Inv-loop μ-loop
-add-d c = let z = c .before .before .before in let f = few-axes (z .loop .inv .0) in omega (arith, c .before .if1 .taken)
-
--- src/grid.rt:114:5
-loop-less : tie.Need-loop-less Inv-loop μ-loop
-loop-less c = omega (arith, c .before .if1 .taken)
-
--- src/grid.rt:114:5
-loop-again : tie.Need-loop-again Inv-loop μ-loop
-loop-again c = let z = c .before .before .before in let s = z .before in let i = z .loop .inv in (i .0, i .1, omega (arith, c .before .if1 .taken), rw (c .kept-extent .ensures .0) (cells-turn (s .args .plan) (i .0) (s .args .choice .mask) (s .args .t3) (i .1) (z .loop .count) (z .loop .d) (c .before .if1 .taken) (i .3)))
-
--- src/grid.rt:108:1
-returns : tie.Need-returns Inv-loop μ-loop
-returns c = let z = c .before .before in let s = z .before in let i = z .loop .inv in cells-end (s .args .plan) (i .0) (s .args .choice .mask) (s .args .t3) (z .loop .count) (z .loop .d) (omega (arith, i .2, c .if1 .left)) (i .3)
+-- src/grid.rt:136:1
+returns : tie.Need-returns
+returns c = let s = c .before .before in let gd = s .good .0 .1 .1 .1 .1 in let ok = passed-accepted (s .args .plan) (gd .0 .1 .0 .1) (gd .1 .0 .1 .0 .1) (gd .1 .1 .0 .1 .0 .1) (s .pre .0) in (cells-whole (s .args .plan) ok (s .args .choice .mask) (s .args .labels) 0 (c .cells-between .result) (c .cells-between .ensures .0), c .cells-between .ensures .1)
 
 pub cells-with-spec : {M : Type 1} → statement M
-cells-with-spec =
-    tie.close
-    (tie.spec
-    Inv-loop
-    μ-loop
-    loop-holds
-    cast-if1
-    mul-kept-extent
-    array-read-kept-extent
-    kept-extent-requires
-    mul-count
-    add-d
-    loop-less
-    loop-again
-    returns)
+cells-with-spec = tie.close (tie.spec cast-cells-between cells-between-requires returns)
