@@ -16,21 +16,9 @@ use Rattle.boards.specs.Steps.{expand}
 use Rattle.boards.proofs.Boards.{cell-region}
 use Rattle.cells.specs.Wrapped.{wrapped}
 use Rattle.engine.specs.Memory.{source, formed, forms, after}
+use Rattle.engine.specs.Expansions.{oneChild, passed, partly}
 use Rattle.engine.proofs.Memory.{expand-keeps}
 use Rattle.engine.proofs.Runs.{parent-within}
-
--- one child on one board: its cells formed, all else kept
-unfoldable pub oneChild : Grid → (ℕ → ℤ) → List ℕ → ℕ → ℕ → (ℕ → ℤ) → (ℕ → ℤ)
-oneChild g array Y b j work i =
-    pick (eqb (boardOf g i) b && (eqb (regionOf g i) j && ltb (cellOf g i) (cells g (j ∷ Y) b))) (formed g array work Y b j (cellOf g i)) (work i)
-
--- is i on a board before b, or on board b in a region before j?
-unfoldable pub passed : Grid → ℕ → ℕ → ℕ → Bool
-passed g b j i = ltb (boardOf g i) b || (eqb (boardOf g i) b && ltb (regionOf g i) j)
-
--- the work area on the way: expanded as far as it is passed
-unfoldable pub partly : Grid → (ℕ → ℤ) → List ℕ → ℕ → ℕ → (ℕ → ℤ) → (ℕ → ℤ)
-partly g array Y b j work i = pick (passed g b j i) (after g array (expand Y) work i) (work i)
 
 module _ (g : Grid) (array : ℕ → ℤ) (Y : List ℕ) (work : ℕ → ℤ) (b j i : ℕ) where
   partly-before : boardOf g i < b → partly g array Y b j work i ≡ after g array (expand Y) work i

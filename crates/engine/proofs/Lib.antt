@@ -15,3 +15,4 @@ pub mod Claimed
 pub mod Unwrapped
 pub mod Refusing
 pub mod Moved
+pub mod Formed

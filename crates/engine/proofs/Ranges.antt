@@ -21,7 +21,7 @@ use Rattle.boards.proofs.Around.{inner, place-further}
 use Rattle.cells.specs.Wrapped.{wrapped}
 use Rattle.engine.specs.Memory.{pointAt, source, formed, after}
 use Rattle.engine.proofs.Loops.{axisLength, stride, parent-formula}
-use Rattle.engine.proofs.Expanding.{oneChild}
+use Rattle.engine.specs.Expansions.{oneChild}
 
 -- the region found starts at r or before
 region-from : (g : Grid) (m d r s : ℕ) → r + regionStart g d ≡ s → regionStart g (regionFrom g m d r) ≤ s

@@ -2,4 +2,5 @@ pub mod Memory
 pub mod Gather
 pub mod Entries
 pub mod Taking
+pub mod Expansions
 pub mod Computing

@@ -1,0 +1,40 @@
+// The cells of a child on one board.
+ghost use mathlib.Core.Path.{_≡_};
+ghost use mathlib.Core.List.{[]};
+ghost use Prim.Native.Nat.{_<_};
+ghost use lib.ListN.{length};
+ghost use Rattle.cube.specs.Boxes.{table};
+ghost use Rattle.cube.specs.Tree.{next};
+ghost use Rattle.boards.specs.Finding.{planGrid, summedIn};
+ghost use Rattle.engine.specs.Memory.{read};
+ghost use Rattle.engine.specs.Expansions.{oneChild, Forms};
+use boards::grid::cells_between;
+use boards::grid::extent_of;
+use boards::grid::labels_of;
+use boards::grid::next_of;
+use boards::grid::region_at;
+use cells::rows::sum_axis;
+use cube::types::Choice;
+use planner::types::Plan;
+
+// Of a choice whose cells stand in the work area: they are (outer, extent, inner) around the axis at place j, which is summed out.
+pub fn form_cells(plan: Plan, choice: Choice, board: u64, j: usize, work: &mut [i64])
+    requires { ⌜ (Forms plan (choice .mask) board j (length (now work))) × (0 < next (summedIn plan (choice .mask))) ⌝ }
+    ensures { λ _. ⌜ now (work .exit) ≡ table (length (now (work .entry))) (oneChild (planGrid plan) (read []) (summedIn plan (choice .mask)) board j (read (now (work .entry)))) ⌝ }
+{
+    let labels = labels_of(plan, board);
+    let outer = cells_between(plan, choice, labels, 0, j);
+    let extent = extent_of(plan, j, labels[j]);
+    let inner = cells_between(plan, choice, labels, j + 1, plan.axes as usize);
+    let next = next_of(plan, choice);
+    let src = region_at(plan, board, next - 1);
+    let dst = region_at(plan, board, j);
+    sum_axis(
+        work,
+        src as usize,
+        dst as usize,
+        outer as usize,
+        extent as usize,
+        inner as usize,
+    );
+}
