@@ -16,3 +16,4 @@ pub mod Unwrapped
 pub mod Refusing
 pub mod Moved
 pub mod Formed
+pub mod Rooted
