@@ -78,6 +78,18 @@ module _ (g : Grid) (Y : List ℕ) (r d : ℕ) (h : d < g .axes) (k : r < leads 
       let l : leadLabel g Y r d < kept Y (g .parts) d = (unfold leadLabel in position-lt (kept Y (g .parts)) (g .axes) 0 r d (unfold leads in k) (omega arith) (omega arith)) in
       (omega arith, ap (λ x. r / x) (sym (product-next (kept Y (g .parts)) (g .axes) d h ∙ ap (λ x. x * after) e ∙ one-mul after)))
 
+-- some factors of a product
+pub part-le : (e : ℕ → ℕ) (n m first : ℕ) → ((i : ℕ) → i < n → 0 < e i) → first + m ≤ n → product e m first ≤ product e n 0
+part-le e n m first some h =
+    let z : n ≡ first + (m + (n - (first + m))) = omega arith in
+    let p = product-pos e first 0 (λ i l r. some i (omega arith)) in
+    let s = product-pos e (n - (first + m)) (first + m) (λ i l r. some i (omega arith)) in
+    let q : product e n 0 ≡ product e first 0 * (product e m first * product e (n - (first + m)) (first + m)) =
+    ap (λ n. product e n 0) z ∙ product-append e first (m + (n - (first + m))) 0 ∙ ap (λ x. product e first 0 * x) (ap (product e (m + (n - (first + m)))) (zero-add first) ∙ product-append e m (n - (first + m)) first) in
+    let t = mul-le-mul {n₁ = product e m first} {m₁ = 1} {n₂ = product e m first} {m₂ = product e (n - (first + m)) (first + m)} (le-refl _) s in
+    let u = mul-le-mul {n₁ = 1} {m₁ = product e m first * product e (n - (first + m)) (first + m)} {n₂ = product e first 0} {m₂ = product e m first * product e (n - (first + m)) (first + m)} p (le-refl _) in
+    omega arith
+
 -- ---- portions
 
 module _ (g : Grid) (ok : Lawful g) (d : ℕ) (h : d < g .axes) where
@@ -158,13 +170,7 @@ module _ (g : Grid) (ok : Lawful g) (Y : List ℕ) (b : ℕ) (in-rack : b < boar
   pub cells-inside : (m first : ℕ) → first + m ≤ g .axes → product (box g Y b) m first ≤ product (g .len) (g .axes) 0
   cells-inside m first h =
       let a = product-le (box g Y b) (g .len) m first (λ i l r. box-inside i (omega arith)) in
-      let n : g .axes ≡ first + (m + (g .axes - (first + m))) = omega arith in
-      let p = product-pos (g .len) first 0 (λ i l r. len-some i (omega arith)) in
-      let s = product-pos (g .len) (g .axes - (first + m)) (first + m) (λ i l r. len-some i (omega arith)) in
-      let e : product (g .len) (g .axes) 0 ≡ product (g .len) first 0 * (product (g .len) m first * product (g .len) (g .axes - (first + m)) (first + m)) =
-      ap (λ n. product (g .len) n 0) n ∙ product-append (g .len) first (m + (g .axes - (first + m))) 0 ∙ ap (λ x. product (g .len) first 0 * x) (ap (product (g .len) (m + (g .axes - (first + m)))) (zero-add first) ∙ product-append (g .len) m (g .axes - (first + m)) first) in
-      let t = mul-le-mul {n₁ = product (g .len) m first} {m₁ = 1} {n₂ = product (g .len) m first} {m₂ = product (g .len) (g .axes - (first + m)) (first + m)} (le-refl _) s in
-      let u = mul-le-mul {n₁ = 1} {m₁ = product (g .len) m first * product (g .len) (g .axes - (first + m)) (first + m)} {n₂ = product (g .len) first 0} {m₂ = product (g .len) m first * product (g .len) (g .axes - (first + m)) (first + m)} p (le-refl _) in
+      let s = part-le (g .len) (g .axes) m first (λ i l. len-some i l) h in
       omega arith
 
 -- ---- an accepted plan

@@ -17,3 +17,4 @@ pub mod Refusing
 pub mod Moved
 pub mod Formed
 pub mod Rooted
+pub mod Strided

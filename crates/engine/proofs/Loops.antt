@@ -16,7 +16,9 @@ use Rattle.planner.proofs.Orders.{sum-order}
 use Rattle.boards.specs.Grids.{Grid, gridOf, extent, box, cells}
 use Rattle.boards.proofs.Lawful.{grid-lawful}
 use Rattle.boards.proofs.Around.{inner, place-around, after-lt}
+use Rattle.boards.proofs.Planned.{inner-from}
 use Rattle.engine.specs.Memory.{pointAt}
+use Rattle.engine.specs.Expansions.{axisLength, stride}
 
 -- ---- a child's cell c and the parent's cells that it sums
 
@@ -76,12 +78,9 @@ place-sum e x (suc m) d =
     shift : (e : ℕ → ℕ) (m d k : ℕ) → inner e m (d + 1) k ≡ inner e (suc m) d k
     shift e m d k = unfold inner in (let s : d + 1 + m ≡ d + suc m = omega arith in rw s)
 
--- the lengths by axis number, and how far apart in the array neighbours on the axis at place d stand
-abbrev pub axisLength : Grid → ℕ → ℕ
-axisLength g a = g .len (g .rank a)
-
-unfoldable pub stride : Grid → ℕ → ℕ
-stride g d = inner (axisLength g) (g .axes) 0 (g .order d)
+pub stride-inner : (g : Grid) (d : ℕ) → stride g d ≡ inner (axisLength g) (g .axes) 0 (g .order d)
+unfolding stride
+stride-inner g d = sym (inner-from (axisLength g) (g .axes) (g .order d))
 
 pub point-formula : (a : PlanLists) → Sound a → (z : ℕ → ℕ) → pointAt (gridOf a) z ≡ sumN ((gridOf a) .axes) (λ d. z d * stride (gridOf a) d)
 point-formula a sound z = numbered ∙ sym (sumN-cong ((gridOf a) .axes) place ∙ ordered)
@@ -93,7 +92,7 @@ point-formula a sound z = numbered ∙ sym (sumN-cong ((gridOf a) .axes) place �
     numbered = unfold pointAt in place-sum (axisLength (gridOf a)) (λ x. z ((gridOf a) .rank x)) ((gridOf a) .axes) 0 ∙ sumN-cong ((gridOf a) .axes) (λ x h. ap term (zero-add x))
 
     place : (d : ℕ) → d < (gridOf a) .axes → z d * stride (gridOf a) d ≡ term ((gridOf a) .order d)
-    place d h = unfold stride in ap (λ k. z k * inner (axisLength (gridOf a)) ((gridOf a) .axes) 0 ((gridOf a) .order d)) (sym (grid-lawful a sound .rank-order d h))
+    place d h = ap₂ _*_ (ap z (sym (grid-lawful a sound .rank-order d h))) (stride-inner (gridOf a) d)
 
     ordered : sumN ((gridOf a) .axes) (λ d. term ((gridOf a) .order d)) ≡ sumN ((gridOf a) .axes) term
     ordered = unfold gridOf in sum-order a sound _

@@ -20,8 +20,8 @@ use Rattle.boards.proofs.Boards.{start-zero, start-next, board-index, region-in
 use Rattle.boards.proofs.Around.{inner, place-further}
 use Rattle.cells.specs.Wrapped.{wrapped}
 use Rattle.engine.specs.Memory.{pointAt, source, formed, after}
-use Rattle.engine.proofs.Loops.{axisLength, stride, parent-formula}
-use Rattle.engine.specs.Expansions.{oneChild}
+use Rattle.engine.proofs.Loops.{stride-inner, parent-formula}
+use Rattle.engine.specs.Expansions.{oneChild, axisLength, stride}
 
 -- the region found starts at r or before
 region-from : (g : Grid) (m d r s : ℕ) → r + regionStart g d ≡ s → regionStart g (regionFrom g m d r) ≤ s
@@ -135,8 +135,7 @@ module _ (g : Grid) (ok : Lawful g) (b j : ℕ) (x : ℕ → ℕ) (r : j < g .ax
   by-axis m = place-cong (g .axes) 0 (λ i l u. refl) (λ a l u. by-number m a (omega arith))
 
   pub root-stride : (m : ℕ) → pointAt g (global g b (put x j m)) ≡ pointAt g (global g b (put x j 0)) + m * stride g j
-  unfolding stride
   root-stride m =
       let z : ℕ → ℕ = λ a. global g b x (g .rank a) in
       let s = g .start j (label g b j) in
-      by-axis m ∙ place-further (g .axes) (g .order j) (ok .order-lt j r) (axisLength g) z s m ∙ ap (λ p. p + m * inner (axisLength g) (g .axes) 0 (g .order j)) (ap (λ v. place (axisLength g) (put z (g .order j) v) (g .axes) 0) (sym (add-zero s)) ∙ sym (by-axis 0))
+      by-axis m ∙ place-further (g .axes) (g .order j) (ok .order-lt j r) (axisLength g) z s m ∙ ap (λ p. p + m * inner (axisLength g) (g .axes) 0 (g .order j)) (ap (λ v. place (axisLength g) (put z (g .order j) v) (g .axes) 0) (sym (add-zero s)) ∙ sym (by-axis 0)) ∙ ap (λ t. pointAt g (global g b (put x j 0)) + m * t) (sym (stride-inner g j))

@@ -29,8 +29,8 @@ use Rattle.cells.specs.Wrapped.{wrapped}
 use Rattle.cells.proofs.Offsets.{offset-sum}
 use Rattle.cells.proofs.Writing.{written-table}
 use Rattle.engine.specs.Memory.{read, pointAt, source, formed}
-use Rattle.engine.specs.Expansions.{oneChild}
-use Rattle.engine.proofs.Loops.{axisLength, stride, parent-formula, point-formula}
+use Rattle.engine.specs.Expansions.{oneChild, axisLength, stride}
+use Rattle.engine.proofs.Loops.{parent-formula, point-formula}
 use Rattle.engine.proofs.Gathering.{table-same}
 use Rattle.engine.proofs.Ranges.{child-range}
 use Rattle.engine.proofs.Runs.{parent-within}
@@ -107,11 +107,11 @@ module _ (a : PlanLists) (sound : Sound a) (b : ℕ) (on : b < boards (gridOf a)
 -- ---- the array
 
 module _ (a : PlanLists) (sound : Sound a) where
-  axis-length : (x : ℕ) → x < length (a .lengths) → axisLength (gridOf a) x ≡ lengthOf (a .lengths) x
+  pub axis-length : (x : ℕ) → x < length (a .lengths) → axisLength (gridOf a) x ≡ lengthOf (a .lengths) x
   unfolding gridOf
   axis-length x h = ap (λ k. getD (a .lengths) k 0) (order-rank a sound x h)
 
-  points-in : product (axisLength (gridOf a)) (gridOf a .axes) 0 ≡ points (a .lengths)
+  pub points-in : product (axisLength (gridOf a)) (gridOf a .axes) 0 ≡ points (a .lengths)
   unfolding points gridOf
   points-in = product-cong (length (a .lengths)) 0 (λ x l r. axis-length x (omega arith))
 

@@ -1,11 +1,11 @@
 -- An expansion done board by board and child by child, as code does it: the work area on the way.
-use Prim.Native.Nat.{ℕ, _≤_, _<_, _^_}
+use Prim.Native.Nat.{ℕ, _+_, _-_, _^_, _≤_, _<_}
 use mathlib.Core.Path.{_≡_}
 use mathlib.Core.Bool.{Bool, true, _&&_, _||_}
 use mathlib.Core.List.{List, _∷_}
 use lib.Dec.{eqb, ltb}
 use lib.IntN.{ℤ}
-use Rattle.cube.specs.Boxes.{pick}
+use Rattle.cube.specs.Boxes.{pick, product}
 use Rattle.cube.specs.Tree.{next}
 use Rattle.planner.specs.Plans.{listsOf}
 use Rattle.planner.specs.Refusals.{planRefusal}
@@ -28,6 +28,16 @@ passed g b j i = ltb (boardOf g i) b || (eqb (boardOf g i) b && ltb (regionOf g 
 -- the work area on the way: expanded as far as it is passed
 unfoldable pub partly : Grid → (ℕ → ℤ) → List ℕ → ℕ → ℕ → (ℕ → ℤ) → (ℕ → ℤ)
 partly g array Y b j work i = pick (passed g b j i) (after g array (expand Y) work i) (work i)
+
+-- ---- the array by strides
+
+-- the lengths by axis number
+abbrev pub axisLength : Grid → ℕ → ℕ
+axisLength g a = g .len (g .rank a)
+
+-- how far apart in the array neighbours on the axis at place d stand: the points of the axes after it
+unfoldable pub stride : Grid → ℕ → ℕ
+stride g d = product (axisLength g) (g .axes - (g .order d + 1)) (g .order d + 1)
 
 -- what forming the child that sums out the axis at place j asks: a board of the rack, a choice that sums out earlier axes alone, and a work area that is large enough
 pub record Forms (q : Plan) (mask b j n : ℕ) : Type 0 where
