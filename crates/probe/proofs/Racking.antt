@@ -13,6 +13,7 @@ use Rattle.planner.specs.declared.types.Plan.{Plan}
 use Rattle.planner.specs.Plans.{stepCount, listsOf}
 use Rattle.planner.specs.Refusals.{planChecks, lengthChecks, planRefusal}
 use Rattle.boards.specs.Steps.{steps}
+use Rattle.boards.proofs.Refusing.{Numbered, plan-numbered, first-due, first-passed}
 use Rattle.boards.specs.Held as Held
 use Rattle.boards.specs.Finding.{planGrid}
 use Rattle.boards.specs.Answers.{Told, toldAt, heldChecks, heldRefusal, holding, counting}
@@ -61,32 +62,9 @@ module _ (small lengths : List ℕ) where
 
 -- ---- the refusals
 
--- no check has the number 0
-abbrev Numbered : List Check → Type 0
-Numbered [] = Unit {0}
-Numbered (c ∷ l) = (0 < c .number) × Numbered l
-
-plan-numbered : (q : Plan) → Numbered (planChecks q)
-unfolding planChecks lengthChecks
-plan-numbered q = (omega arith, (omega arith, (omega arith, (omega arith, (omega arith, (omega arith, tt))))))
-
 held-numbered : (q : Plan) (at b : ℕ) → Numbered (heldChecks q at b)
 unfolding heldChecks planChecks lengthChecks
 held-numbered q at b = (omega arith, (omega arith, (omega arith, (omega arith, (omega arith, (omega arith, (omega arith, tt)))))))
-
--- where one of some checks is due, no later one counts; where none is, the later ones decide
-first-due : (l r : List Check) → (first l ≡ 0 → ⊥) → first (l ++ r) ≡ first l
-unfolding first
-first-due [] r h = absurd (h refl)
-first-due (c ∷ l) r h = by (c .due) (λ t. rw t refl) (λ t. rw t (first-due l r (rw t at h)))
-
-first-passed : (l r : List Check) → Numbered l → first l ≡ 0 → first (l ++ r) ≡ first r
-unfolding first
-first-passed [] r n h = refl
-first-passed (c ∷ l) r n h =
-    by (c .due)
-    (λ t. let z : c .number ≡ 0 = (rw t at h) in absurd (omega (arith, n .0)))
-    (λ t. rw t (first-passed l r (n .1) (rw t at h)))
 
 -- what an answer says of the refusal
 given-is : (n a v : ℕ) → gives v ≡ answered n a → (n ≡ 0) × (v ≡ a)
