@@ -1,6 +1,7 @@
 //! The proved engine through its static libraries, beside the independent engine.
 
 mod plans;
+mod steps;
 mod tapes;
 
 use std::env;
@@ -10,7 +11,8 @@ use std::time::Instant;
 const USAGE: &str = "\
 usage: linked plans SEED N      compare planning on every small shape, N random requests and every refusal
        linked tapes SEED N      compare reading on N made tapes, and on tapes damaged at every byte
-       linked bench             time planning and reading, proved and independent, in one run
+       linked steps SEED N      compare T, every step and held on every small plan, N random plans and every refusal
+       linked bench             time planning, reading and steps, proved and independent, in one run
 ";
 
 fn main() -> ExitCode {
@@ -23,9 +25,13 @@ fn main() -> ExitCode {
         ["tapes", seed, n] => {
             seed.parse().ok().zip(n.parse().ok()).map(|(s, n)| tapes::check(s, n))
         }
+        ["steps", seed, n] => {
+            seed.parse().ok().zip(n.parse().ok()).map(|(s, n)| steps::check(s, n))
+        }
         ["bench"] => {
             plans::bench();
             tapes::bench();
+            steps::bench();
             return ExitCode::SUCCESS;
         }
         _ => None,

@@ -108,7 +108,7 @@ fn least(count: &mut Count, lengths: &[u64], p: u8) {
 }
 
 /// One to eight axes with up to 2^24 points, and a p that often has room.
-fn request(random: &mut Random) -> (Vec<u64>, u8) {
+pub fn request(random: &mut Random) -> (Vec<u64>, u8) {
     let axes = random.between(1, 8);
     let mut room = 24;
     let mut lengths = Vec::new();

@@ -18,16 +18,16 @@ use Rattle.boards.specs.Finding.{planGrid}
 use Rattle.boards.specs.Answers.{pastEnd, noBoard, heldChecks, heldRefusal, holding}
 
 -- no check has the number 0
-abbrev Numbered : List Check → Type 0
+abbrev pub Numbered : List Check → Type 0
 Numbered [] = Unit {0}
 Numbered (c ∷ l) = (0 < c .number) × Numbered l
 
-first-due : (l r : List Check) → (first l ≡ 0 → ⊥) → first (l ++ r) ≡ first l
+pub first-due : (l r : List Check) → (first l ≡ 0 → ⊥) → first (l ++ r) ≡ first l
 unfolding first
 first-due [] r h = absurd (h refl)
 first-due (c ∷ l) r h = by (c .due) (λ t. rw t refl) (λ t. rw t (first-due l r (rw t at h)))
 
-first-passed : (l r : List Check) → Numbered l → first l ≡ 0 → first (l ++ r) ≡ first r
+pub first-passed : (l r : List Check) → Numbered l → first l ≡ 0 → first (l ++ r) ≡ first r
 unfolding first
 first-passed [] r n h = refl
 first-passed (c ∷ l) r n h =
@@ -35,7 +35,7 @@ first-passed (c ∷ l) r n h =
     (λ t. let z : c .number ≡ 0 = (rw t at h) in absurd (omega (arith, n .0)))
     (λ t. rw t (first-passed l r (n .1) (rw t at h)))
 
-plan-numbered : (q : Plan) → Numbered (planChecks q)
+pub plan-numbered : (q : Plan) → Numbered (planChecks q)
 unfolding planChecks lengthChecks
 plan-numbered q = (omega arith, (omega arith, (omega arith, (omega arith, (omega arith, (omega arith, tt))))))
 

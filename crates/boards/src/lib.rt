@@ -1,3 +1,1 @@
-pub mod counts;
-pub mod grid;
 pub mod types;

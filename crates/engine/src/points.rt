@@ -8,8 +8,8 @@ ghost use Rattle.planner.specs.Refusals.{planRefusal};
 ghost use Rattle.boards.specs.Grids.{boardWith, extent};
 ghost use Rattle.boards.specs.Finding.{planGrid, Labels};
 ghost use Rattle.engine.specs.Expansions.{stride};
-use boards::grid::extent_of;
-use boards::grid::start_of;
+use grid::places::extent_of;
+use grid::places::start_of;
 use planner::types::Plan;
 
 // How far apart in the array neighbours on the axis at place d stand: the points of the axes after it.

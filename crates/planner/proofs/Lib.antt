@@ -1,7 +1,7 @@
 pub mod Orders
 pub mod Cases
 pub mod Tools
-mod Turns
+pub mod Turns
 pub mod Sorted
 pub mod Shuffled
 pub mod Ordered
@@ -26,4 +26,3 @@ pub mod Arranging
 pub mod Deciding
 pub mod PricingLaws
 pub mod Answering
-pub mod Best

@@ -1,5 +1,1 @@
-pub mod checks;
-pub mod planning;
-pub mod pricing;
-pub mod rule;
 pub mod types;

@@ -7,15 +7,15 @@ ghost use Rattle.boards.specs.Grids.{boards};
 ghost use Rattle.boards.specs.Held as Holding;
 ghost use Rattle.boards.specs.Finding.{planGrid, summedIn, heldWalk, Walking, Forming};
 ghost use Rattle.boards.specs.Answers.{heldReply, holding};
-use boards::counts::parts_of;
-use boards::counts::steps_of;
-use boards::counts::transfer_count;
-use boards::counts::walk_count;
-use boards::grid::cells_of;
-use boards::grid::is_lead;
 use boards::types::Held;
+use checks::plan_refusal;
 use cube::types::Choice;
-use planner::checks::plan_refusal;
+use grid::counts::parts_of;
+use grid::counts::steps_of;
+use grid::counts::transfer_count;
+use grid::counts::walk_count;
+use grid::places::cells_of;
+use grid::places::is_lead;
 use planner::types::Plan;
 
 // The cells of a child on a board, which forms them if it is a lead of the parent.

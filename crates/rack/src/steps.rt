@@ -5,15 +5,15 @@ ghost use Rattle.planner.specs.Refusals.{planRefusal};
 ghost use Rattle.boards.specs.Steps.{visit, walk, steps};
 ghost use Rattle.boards.specs.Finding.{planGrid, summedIn, found, Walking, Sending};
 ghost use Rattle.boards.specs.Answers.{told, telling, toldAt, toldOf};
-use boards::counts::parts_of;
-use boards::counts::transfer_count;
-use boards::counts::walk_count;
-use boards::grid::board_of;
-use boards::grid::cells_with;
-use boards::grid::lead_labels;
 use boards::types::Step;
 use boards::types::Transfer;
 use cube::types::Choice;
+use grid::counts::parts_of;
+use grid::counts::transfer_count;
+use grid::counts::walk_count;
+use grid::places::board_of;
+use grid::places::cells_with;
+use grid::places::lead_labels;
 use planner::types::Plan;
 
 // The transfer at a position among those of a choice whose last summed axis is at place d.

@@ -2,7 +2,7 @@ use Rattle.engine.proofs.points.extents_of.Statement.{statement}
 use Rattle.engine.proofs.points.extents_of.Tie as tie
 use Rattle.engine.proofs.points.extents_of.Reads as reads
 use Rattle.engine.proofs.points.extents_of.Lts as lts
-use Rattle.boards.proofs.grid.extent_of.Reads as extent-of-reads
+use Rattle.grid.proofs.places.extent_of.Reads as extent-of-reads
 
 abbrev Inv-loop : tie.InvT-loop
 Inv-loop plan labels extents₀ d₀ extents d = ?

@@ -1,0 +1,93 @@
+// How many steps a plan's list has, and a walk over some of its axes.
+ghost use mathlib.Core.Path.{_≡_};
+ghost use Prim.Native.Nat.{ℕ, _+_, _-_, _*_, _^_, _≤_, _<_};
+ghost use Rattle.planner.specs.Plans.{listsOf, stepCount};
+ghost use Rattle.planner.specs.Refusals.{planRefusal};
+ghost use Rattle.boards.specs.Counts.{span, sendings, marks, walkCount};
+ghost use Rattle.boards.specs.Finding.{planGrid};
+ghost use Rattle.boards.specs.Answers.{countedReply, counting};
+use boards::types::Counted;
+use checks::plan_refusal;
+use planner::types::Plan;
+
+// The ways to label some axes, and the transfers of a walk over them.
+pub struct Tally {
+    pub span: u64,
+    pub sent: u64,
+}
+
+// Into how many portions the axis at place d is cut.
+pub fn parts_of(plan: Plan, d: usize) -> u64
+    requires { ⌜ (planRefusal plan ≡ 0) × (d < plan .axes) ⌝ }
+    ensures { λ r. ⌜ (r ≡ planGrid plan .parts d) × (1 ≤ r) × (r ≤ 1024) ⌝ }
+{
+    let axis = plan.order[d] as usize;
+    1u64 << plan.exponents[axis]
+}
+
+// Over the axes from place d on.
+fn tally_from(plan: Plan, d: usize) -> Tally
+    requires { ⌜ (planRefusal plan ≡ 0) × (d ≤ plan .axes) ⌝ }
+    ensures { λ r. ⌜ (r .span ≡ span (planGrid plan) (plan .axes - d) d) × (r .sent ≡ sendings (planGrid plan) (plan .axes - d) d) × (r .span ≤ 1024) × (r .sent ≤ 262144) ⌝ }
+{
+    if d == plan.axes as usize {
+        return Tally { span: 1, sent: 0 };
+    }
+    let parts = parts_of(plan, d);
+    let rest = tally_from(plan, d + 1);
+    Tally {
+        span: parts * rest.span,
+        sent: rest.sent * (parts + 1) + rest.span * (parts - 1),
+    }
+}
+
+// The finishes and the expansions of a walk over m axes.
+pub fn marks_of(m: usize) -> u64
+    requires { ⌜ m ≤ 8 ⌝ }
+    ensures { λ r. ⌜ (r ≡ marks m) × (r ≤ 512) ⌝ }
+{
+    if m == 0 {
+        return 0;
+    }
+    ((1u64 << m) - 1) + ((1u64 << (m - 1)) - 1)
+}
+
+// The steps of the walk over the axes from place d on, of a choice whose kept axes before d have n labellings.
+pub fn walk_count(plan: Plan, d: usize, n: u64) -> u64
+    requires { ⌜ (planRefusal plan ≡ 0) × (d ≤ plan .axes) × (n ≤ 1024) ⌝ }
+    ensures { λ r. ⌜ (r ≡ walkCount (planGrid plan) (plan .axes - d) d n) × (r < 2 ^ 32) ⌝ }
+{
+    let all = tally_from(plan, d);
+    let others = marks_of(plan.axes as usize - d);
+    all.sent * n + others
+}
+
+// The transfers of the child that sums out the axis at place d.
+pub fn transfer_count(plan: Plan, d: usize, n: u64) -> u64
+    requires { ⌜ (planRefusal plan ≡ 0) × (d < plan .axes) × (n ≤ 1024) ⌝ }
+    ensures { λ r. ⌜ (r ≡ n * span (planGrid plan) (plan .axes - (d + 1)) (d + 1) * (planGrid plan .parts d - 1)) × (r < 2 ^ 32) ⌝ }
+{
+    let parts = parts_of(plan, d);
+    let after = tally_from(plan, d + 1);
+    n * after.span * (parts - 1)
+}
+
+// T, of a plan that no check refuses.
+pub fn steps_of(plan: Plan) -> u64
+    requires { ⌜ planRefusal plan ≡ 0 ⌝ }
+    ensures { λ r. ⌜ r ≡ stepCount (listsOf plan) ⌝ }
+{
+    let others = walk_count(plan, 0, 1);
+    others + 1
+}
+
+// The public entry: T, or the plan's refusal.
+pub fn step_count(plan: Plan) -> Counted
+    ensures { λ r. ⌜ countedReply r ≡ counting plan ⌝ }
+{
+    let refusal = plan_refusal(plan);
+    if refusal != 0 {
+        return Counted::Refused(refusal);
+    }
+    Counted::Steps(steps_of(plan))
+}

@@ -1,0 +1,183 @@
+// Boards by their labels: portions, extents, leads and cells. Axes go by their place in the plan.
+ghost use mathlib.Core.Path.{_≡_};
+ghost use Prim.Native.Nat.{ℕ, suc, _-_, _*_, _^_, _≤_, _<_};
+ghost use mathlib.Core.Bool.{_||_, not};
+ghost use lib.Dec.{eqb};
+ghost use lib.ListN.{getD, length};
+ghost use Rattle.cube.specs.Limits.{lengthLimit, pointLimit};
+ghost use Rattle.cube.specs.Boxes.{product};
+ghost use Rattle.cube.specs.Tree.{has, kept, next};
+ghost use Rattle.planner.specs.Refusals.{planRefusal};
+ghost use Rattle.boards.specs.Grids.{boards, boardWith, label, lead, box, cells, share, index};
+ghost use Rattle.boards.specs.Finding.{planGrid, summedIn, leads, leadLabel, Labels};
+use crate::counts::parts_of;
+use cube::types::Choice;
+use planner::types::Plan;
+use planning::pricing::region_start;
+
+// Where portion l of the axis at place d starts; the last one ends where the next would start.
+pub fn start_of(plan: Plan, d: usize, l: u64) -> u64
+    requires { ⌜ (planRefusal plan ≡ 0) × (d < plan .axes) × (l ≤ planGrid plan .parts d) ⌝ }
+    ensures { λ r. ⌜ (r ≡ planGrid plan .start d l) × (r ≤ lengthLimit) ⌝ }
+{
+    let axis = plan.order[d] as usize;
+    let length = plan.lengths[axis] as u64;
+    let parts = parts_of(plan, d);
+    l * length / parts
+}
+
+// How many positions portion l of the axis at place d has.
+pub fn extent_of(plan: Plan, d: usize, l: u64) -> u64
+    requires { ⌜ (planRefusal plan ≡ 0) × (d < plan .axes) × (l < planGrid plan .parts d) ⌝ }
+    ensures { λ r. ⌜ (r ≡ planGrid plan .start d (suc l) - planGrid plan .start d l) × (r ≤ lengthLimit) ⌝ }
+{
+    let end = start_of(plan, d, l + 1);
+    let start = start_of(plan, d, l);
+    end - start
+}
+
+// The same, and 1 where a choice sums the axis out.
+fn kept_extent(plan: Plan, choice: Choice, d: usize, l: u64) -> u64
+    requires { ⌜ (planRefusal plan ≡ 0) × (d < plan .axes) × (l < planGrid plan .parts d) ⌝ }
+    ensures { λ r. ⌜ (r ≡ kept (summedIn plan (choice .mask)) (λ e. planGrid plan .start e (suc l) - planGrid plan .start e l) d) × (r ≤ lengthLimit) ⌝ }
+{
+    if choice.keeps(plan.order[d]) {
+        return extent_of(plan, d, l);
+    }
+    1
+}
+
+// The labels, by place, of the lead that has a rank among the leads of a choice.
+pub fn lead_labels(plan: Plan, choice: Choice, rank: u64) -> [u64; 8]
+    requires { ⌜ (planRefusal plan ≡ 0) × (rank < leads (planGrid plan) (summedIn plan (choice .mask))) ⌝ }
+    ensures { λ r. ⌜ (length r ≡ 8) × ((d : ℕ) → d < plan .axes → getD r d 0 ≡ leadLabel (planGrid plan) (summedIn plan (choice .mask)) rank d) ⌝ }
+{
+    let mut labels = [0u64; 8];
+    let mut rest = rank;
+    let mut d = plan.axes as usize;
+    while 0 < d {
+        d -= 1;
+        if choice.keeps(plan.order[d]) {
+            let parts = parts_of(plan, d);
+            labels[d] = rest % parts;
+            rest = rest / parts;
+        }
+    }
+    labels
+}
+
+// The labels of a board: it is a lead of the choice that keeps every axis, and its number is its rank.
+pub fn labels_of(plan: Plan, board: u64) -> [u64; 8]
+    requires { ⌜ (planRefusal plan ≡ 0) × (board < boards (planGrid plan)) ⌝ }
+    ensures { λ r. ⌜ ((d : ℕ) → d < plan .axes → getD r d 0 ≡ label (planGrid plan) board d) ⌝ }
+{
+    let full = Choice::full(plan.axes);
+    lead_labels(plan, full, board)
+}
+
+// And back: the board that has these labels.
+pub fn board_of(plan: Plan, labels: [u64; 8]) -> u64
+    requires { ⌜ (planRefusal plan ≡ 0) × (Labels plan labels) ⌝ }
+    ensures { λ r. ⌜ (r ≡ boardWith (planGrid plan) (λ d. getD labels d 0)) × (r < 1024) ⌝ }
+{
+    let mut board: u64 = 0;
+    let mut d: usize = 0;
+    while d < plan.axes as usize {
+        let parts = parts_of(plan, d);
+        board = board * parts + labels[d];
+        d += 1;
+    }
+    board
+}
+
+// May a lead of a choice have label l on the axis at place d?
+fn lead_may(plan: Plan, choice: Choice, d: usize, l: u64) -> bool
+    requires { ⌜ (planRefusal plan ≡ 0) × (d < plan .axes) ⌝ }
+    ensures { λ r. ⌜ r ≡ (eqb l 0 || not (has (summedIn plan (choice .mask)) d)) ⌝ }
+{
+    if l == 0 {
+        return true;
+    }
+    choice.keeps(plan.order[d])
+}
+
+// Has a board label 0 on every axis that a choice sums out?
+pub fn is_lead(plan: Plan, choice: Choice, board: u64) -> bool
+    requires { ⌜ (planRefusal plan ≡ 0) × (board < boards (planGrid plan)) ⌝ }
+    ensures { λ r. ⌜ r ≡ lead (planGrid plan) (summedIn plan (choice .mask)) board ⌝ }
+{
+    let labels = labels_of(plan, board);
+    let mut d: usize = 0;
+    while d < plan.axes as usize {
+        if !lead_may(plan, choice, d, labels[d]) {
+            return false;
+        }
+        d += 1;
+    }
+    true
+}
+
+// How many cells of a choice the axes from place `first` up to place `end` make on the board with these labels.
+pub fn cells_between(plan: Plan, choice: Choice, labels: [u64; 8], first: usize, end: usize) -> u64
+    requires { ⌜ (planRefusal plan ≡ 0) × (Labels plan labels) × (first ≤ end) × (end ≤ plan .axes) ⌝ }
+    ensures { λ r. ⌜ (r ≡ product (box (planGrid plan) (summedIn plan (choice .mask)) (boardWith (planGrid plan) (λ d. getD labels d 0))) (end - first) first) × (r ≤ pointLimit) ⌝ }
+{
+    let mut count: u64 = 1;
+    let mut d = first;
+    while d < end {
+        let extent = kept_extent(plan, choice, d, labels[d]);
+        count = count * extent;
+        d += 1;
+    }
+    count
+}
+
+// And all of them.
+pub fn cells_with(plan: Plan, choice: Choice, labels: [u64; 8]) -> u64
+    requires { ⌜ (planRefusal plan ≡ 0) × (Labels plan labels) ⌝ }
+    ensures { λ r. ⌜ (r ≡ cells (planGrid plan) (summedIn plan (choice .mask)) (boardWith (planGrid plan) (λ d. getD labels d 0))) × (r ≤ pointLimit) ⌝ }
+{
+    cells_between(plan, choice, labels, 0, plan.axes as usize)
+}
+
+// How many cells of a choice a board has.
+pub fn cells_of(plan: Plan, choice: Choice, board: u64) -> u64
+    requires { ⌜ (planRefusal plan ≡ 0) × (board < boards (planGrid plan)) ⌝ }
+    ensures { λ r. ⌜ (r ≡ cells (planGrid plan) (summedIn plan (choice .mask)) board) × (r ≤ pointLimit) ⌝ }
+{
+    let labels = labels_of(plan, board);
+    cells_with(plan, choice, labels)
+}
+
+// The first place that is later than every axis that a choice sums out.
+pub fn next_of(plan: Plan, choice: Choice) -> usize
+    requires { ⌜ planRefusal plan ≡ 0 ⌝ }
+    ensures { λ r. ⌜ (r ≡ next (summedIn plan (choice .mask))) × (r ≤ plan .axes) ⌝ }
+{
+    let mut d = plan.axes as usize;
+    while 0 < d {
+        if !choice.keeps(plan.order[d - 1]) {
+            return d;
+        }
+        d -= 1;
+    }
+    0
+}
+
+// A, the cells of a board's share.
+pub fn share_of(plan: Plan) -> u64
+    requires { ⌜ planRefusal plan ≡ 0 ⌝ }
+    ensures { λ r. ⌜ (r ≡ share (planGrid plan)) × (r ≤ pointLimit * plan .axes) ⌝ }
+{
+    region_start(plan, plan.axes as usize)
+}
+
+// Where region i of a board's share starts in the work area.
+pub fn region_at(plan: Plan, board: u64, i: usize) -> u64
+    requires { ⌜ (planRefusal plan ≡ 0) × (board < 1024) × (i ≤ plan .axes) ⌝ }
+    ensures { λ r. ⌜ (r ≡ index (planGrid plan) board i 0) × (r < 2 ^ 38) ⌝ }
+{
+    let share = share_of(plan);
+    let start = region_start(plan, i);
+    board * share + start
+}

@@ -1,0 +1,3 @@
+pub mod planning;
+pub mod pricing;
+pub mod rule;

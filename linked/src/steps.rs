@@ -1,0 +1,489 @@
+//! T, the step at a position and held through the probe's library, beside a rack that
+//! lists its steps by plain recursion.
+
+use std::hint::black_box;
+
+use compare::board;
+use compare::choice;
+use compare::held::Held;
+use compare::judge::{self, Refusal};
+use compare::plan::{planned, Plan};
+use compare::random::Random;
+use compare::steps::{self, Step, Transfer};
+
+use crate::plans::request;
+use crate::{nanoseconds, Count};
+
+extern "C" {
+    fn rack_count(
+        small: *const u8,
+        small_len: usize,
+        lengths: *const u32,
+        lengths_len: usize,
+        out: *mut u64,
+        out_len: usize,
+    ) -> u8;
+    fn rack_step(
+        small: *const u8,
+        small_len: usize,
+        lengths: *const u32,
+        lengths_len: usize,
+        at: u64,
+        out: *mut u64,
+        out_len: usize,
+    ) -> u8;
+    fn rack_held(
+        small: *const u8,
+        small_len: usize,
+        lengths: *const u32,
+        lengths_len: usize,
+        at: u64,
+        board: u32,
+        out: *mut u64,
+        out_len: usize,
+    ) -> u8;
+}
+
+const SLOTS: usize = 8;
+const ORDER: usize = 2;
+const EXPONENTS: usize = ORDER + SLOTS;
+const SMALL: usize = EXPONENTS + SLOTS;
+
+/// A plan as the library takes it, or what damage makes of one: axes, p, the order's
+/// slots and the exponents'; and the lengths' slots.
+#[derive(Clone, Debug)]
+struct Slots {
+    small: Vec<u8>,
+    lengths: Vec<u32>,
+}
+
+#[derive(Clone, Copy, Debug)]
+enum Call {
+    Count,
+    Step(u64),
+    Held(u64, u32),
+}
+
+impl Call {
+    /// How long a lent slice must be.
+    fn cells(self) -> usize {
+        if matches!(self, Call::Step(_)) {
+            5
+        } else {
+            1
+        }
+    }
+
+    fn make(self, slots: &Slots, out: &mut [u64]) -> u8 {
+        let (small, small_len) = (slots.small.as_ptr(), slots.small.len());
+        let (lengths, lengths_len) = (slots.lengths.as_ptr(), slots.lengths.len());
+        let (out, out_len) = (out.as_mut_ptr(), out.len());
+        unsafe {
+            match self {
+                Call::Count => rack_count(small, small_len, lengths, lengths_len, out, out_len),
+                Call::Step(at) => {
+                    rack_step(small, small_len, lengths, lengths_len, at, out, out_len)
+                }
+                Call::Held(at, board) => {
+                    rack_held(small, small_len, lengths, lengths_len, at, board, out, out_len)
+                }
+            }
+        }
+    }
+}
+
+/// The cells that are due, of which `Call::cells` count, or the refusal.
+type Due = Result<[u64; 5], u8>;
+
+/// The independent rack.
+struct Rack<'a> {
+    plan: &'a Plan,
+    steps: Vec<Step>,
+    held: Held<'a>,
+}
+
+impl Rack<'_> {
+    fn new(plan: &Plan) -> Rack<'_> {
+        let steps = steps::list(plan);
+        let held = Held::new(plan, &steps);
+        Rack { plan, steps, held }
+    }
+
+    fn total(&self) -> u64 {
+        self.steps.len() as u64
+    }
+
+    fn due(&self, call: Call) -> Due {
+        match call {
+            Call::Count => Ok([self.total(), 0, 0, 0, 0]),
+            Call::Step(at) => Ok(told(self.steps.get(at as usize))),
+            Call::Held(at, board) => {
+                if at > self.total() || u64::from(board) >= self.plan.boards() {
+                    return Err(12);
+                }
+                Ok([self.held.at(at as usize, u64::from(board)), 0, 0, 0, 0])
+            }
+        }
+    }
+}
+
+fn told(step: Option<&Step>) -> [u64; 5] {
+    match step {
+        Some(&Step::Expand(choice)) => [1, 0, 0, u64::from(choice), 0],
+        Some(&Step::Transfer(Transfer { sender, receiver, choice, values })) => {
+            [2, sender, receiver, u64::from(choice), values]
+        }
+        Some(&Step::Finish(choice)) => [3, 0, 0, u64::from(choice), 0],
+        None => [4, 0, 0, 0, 0],
+    }
+}
+
+fn spelled(plan: &Plan) -> Slots {
+    let mut small = vec![0; SMALL];
+    let mut lengths = vec![0; SLOTS];
+    small[0] = plan.axes() as u8;
+    small[1] = plan.p as u8;
+    for (i, &axis) in plan.order.iter().enumerate() {
+        small[ORDER + i] = axis as u8;
+        small[EXPONENTS + i] = plan.exponents[i] as u8;
+        lengths[i] = plan.lengths[i] as u32;
+    }
+    Slots { small, lengths }
+}
+
+/// The plan that any slots hold, or its refusal.
+fn judged(slots: &Slots) -> Result<Plan, u8> {
+    if slots.small.len() != SMALL || slots.lengths.len() != SLOTS {
+        return Err(3);
+    }
+    let axes = usize::from(slots.small[0]);
+    if axes > SLOTS {
+        return Err(3);
+    }
+    let (lengths, past_lengths) = slots.lengths.split_at(axes);
+    let (order, past_order) = slots.small[ORDER..EXPONENTS].split_at(axes);
+    let (exponents, past_exponents) = slots.small[EXPONENTS..].split_at(axes);
+    let past = past_order.iter().chain(past_exponents).any(|&slot| slot != 0);
+    let slots_used = past || past_lengths.iter().any(|&slot| slot != 0);
+    let plan = Plan {
+        lengths: lengths.iter().map(|&length| u64::from(length)).collect(),
+        order: order.iter().map(|&axis| usize::from(axis)).collect(),
+        exponents: exponents.iter().map(|&k| u32::from(k)).collect(),
+        p: u32::from(slots.small[1]),
+    };
+    match judge::plan(&plan) {
+        // The independent plan has no slots past its axes. Line 8 stands before 9.
+        Ok(()) | Err(Refusal(9)) if slots_used => Err(8),
+        Ok(()) => Ok(plan),
+        Err(Refusal(number)) => Err(number),
+    }
+}
+
+/// A call with a slice of some length, and the cells around it.
+fn expect(count: &mut Count, slots: &Slots, call: Call, len: usize, due: Due) {
+    let before: [u64; 8] = std::array::from_fn(|i| 0xa5a5_0000_0000_005a ^ i as u64);
+    let mut after = before;
+    let answer = call.make(slots, &mut after[..len]);
+    let mut written = before;
+    let refusal = match due {
+        Err(number) => number,
+        Ok(_) if len != call.cells() => 13,
+        Ok(cells) => {
+            written[..len].copy_from_slice(&cells[..len]);
+            0
+        }
+    };
+    count.note((answer, after) == (refusal, written), || {
+        format!("{call:?} of {slots:?}: {answer} {after:?}, due {refusal} {written:?}")
+    });
+}
+
+pub fn check(seed: u64, n: u64) -> Count {
+    let mut count = Count::default();
+    let mut random = Random::new(seed);
+    small_plans(&mut count, &mut random);
+    for index in 0..n {
+        let (lengths, p) = request(&mut random);
+        let plan = match index % 2 {
+            0 => planned(&lengths, fitting(&lengths, p)).expect("p has room"),
+            _ => lawful(&mut random, &lengths, fitting(&lengths, p)),
+        };
+        whole(&mut count, &mut random, &plan);
+    }
+    largest(&mut count, &mut random);
+    refusals(&mut count, &mut random);
+    count
+}
+
+/// The largest p up to the given one that the lengths and line 6 admit.
+fn fitting(lengths: &[u64], p: u8) -> u32 {
+    let room = lengths.iter().map(|length| length.ilog2()).sum();
+    u32::from(p).min(room).min(judge::HIGHEST_P)
+}
+
+/// A plan of any order, and p halvings along any axes that admit them.
+fn lawful(random: &mut Random, lengths: &[u64], p: u32) -> Plan {
+    let mut order: Vec<usize> = (0..lengths.len()).collect();
+    random.shuffle(&mut order);
+    let mut exponents = vec![0; lengths.len()];
+    for _ in 0..p {
+        let may_rise = |&axis: &usize| judge::fits(exponents[axis] + 1, lengths[axis]);
+        let axes: Vec<usize> = (0..lengths.len()).filter(may_rise).collect();
+        exponents[random.pick(&axes)] += 1;
+    }
+    Plan { lengths: lengths.to_vec(), order, exponents, p }
+}
+
+/// T, every step of the list, the positions past it, and what boards hold.
+fn whole(count: &mut Count, random: &mut Random, plan: &Plan) {
+    judge::plan(plan).expect("a lawful plan");
+    let slots = spelled(plan);
+    let rack = Rack::new(plan);
+    let mut same = |call: Call| expect(count, &slots, call, call.cells(), rack.due(call));
+    let total = rack.total();
+    same(Call::Count);
+    for at in (0..=total + 2).chain([total + random.below(1 << 40), u64::MAX]) {
+        same(Call::Step(at));
+    }
+    let boards = plan.boards() as u32;
+    for (at, board) in [(total, boards), (0, u32::MAX), (total + 1, 0), (u64::MAX, boards - 1)] {
+        same(Call::Held(at, board));
+    }
+    // The independent rack goes through every choice for each answer.
+    if ((total + 1) * u64::from(boards)) << plan.axes() <= 1 << 17 {
+        for at in 0..=total {
+            (0..boards).for_each(|board| same(Call::Held(at, board)));
+        }
+        return;
+    }
+    for _ in 0..200 {
+        same(Call::Held(random.between(0, total), some_board(random, plan)));
+    }
+}
+
+/// Half of the boards are leads of a random choice: in a large rack few boards are leads
+/// of any but the root.
+fn some_board(random: &mut Random, plan: &Plan) -> u32 {
+    let board = random.below(plan.boards());
+    if random.one_in(2) {
+        return board as u32;
+    }
+    let choice = random.next() as u8;
+    let summed = (0..plan.axes()).filter(|&axis| !choice::keeps(choice, axis));
+    let labels = summed.map(|axis| board::label(plan, board, axis) << board::shift(plan, axis));
+    (board - labels.sum::<u64>()) as u32
+}
+
+/// Every plan of one to three axes up to length 4: all orders, all exponents.
+fn small_plans(count: &mut Count, random: &mut Random) {
+    for axes in 1..=3u32 {
+        for number in 0..4u64.pow(axes) {
+            let lengths: Vec<u64> = (0..axes).map(|i| 1 + number / 4u64.pow(i) % 4).collect();
+            for code in 0..3u32.pow(axes) {
+                let exponents: Vec<u32> = (0..axes).map(|i| code / 3u32.pow(i) % 3).collect();
+                for order in orders(axes as usize) {
+                    let (lengths, exponents) = (lengths.clone(), exponents.clone());
+                    let p = exponents.iter().sum();
+                    let plan = Plan { lengths, order, exponents, p };
+                    if judge::plan(&plan).is_ok() {
+                        whole(count, random, &plan);
+                    }
+                }
+            }
+        }
+    }
+}
+
+fn orders(axes: usize) -> Vec<Vec<usize>> {
+    if axes == 0 {
+        return vec![Vec::new()];
+    }
+    let mut longer = Vec::new();
+    for order in orders(axes - 1) {
+        for place in 0..axes {
+            let mut order = order.clone();
+            order.insert(place, axes - 1);
+            longer.push(order);
+        }
+    }
+    longer
+}
+
+/// The planner's plan with the most steps.
+fn most_planned() -> Plan {
+    planned(&[8, 2, 2, 2, 2, 2, 2, 2], 10).expect("ten halvings")
+}
+
+/// The most steps of all lawful plans: all portions on the axis that comes last.
+fn most_steps() -> Plan {
+    let lengths = vec![1_024, 1, 1, 1, 1, 1, 1, 1];
+    let exponents = vec![10, 0, 0, 0, 0, 0, 0, 0];
+    Plan { lengths, order: (1..8).chain([0]).collect(), exponents, p: 10 }
+}
+
+/// The most steps, and the most points.
+fn largest(count: &mut Count, random: &mut Random) {
+    for (plan, total) in [(most_planned(), 19_810), (most_steps(), 131_327)] {
+        expect(count, &spelled(&plan), Call::Count, 1, Ok([total, 0, 0, 0, 0]));
+        whole(count, random, &plan);
+    }
+    let shapes: [&[u64]; 6] = [
+        &[8; 8],
+        &[4_096, 4_096],
+        &[256, 256, 256],
+        &[65_535, 256],
+        &[4, 64, 2, 16, 32, 4, 8, 2],
+        &[32_768, 2, 2, 2, 2, 2, 2, 2],
+    ];
+    for lengths in shapes {
+        for p in [0, 5, 10] {
+            whole(count, random, &planned(lengths, p).expect("p has room"));
+            let other = lawful(random, lengths, p);
+            whole(count, random, &other);
+        }
+    }
+}
+
+const LINES: [u8; 8] = [3, 4, 5, 6, 8, 9, 12, 13];
+
+fn refusals(count: &mut Count, random: &mut Random) {
+    for set in 0..1 << LINES.len() {
+        let chosen = LINES.iter().enumerate().filter(|&(i, _)| set >> i & 1 == 1);
+        lines(count, &chosen.map(|(_, &line)| line).collect::<Vec<u8>>());
+    }
+    for _ in 0..60 {
+        let axes = random.between(1, 8);
+        let lengths: Vec<u64> = (0..axes).map(|_| random.between(1, 4)).collect();
+        let p = fitting(&lengths, random.below(4) as u8);
+        let plan = lawful(random, &lengths, p);
+        damaged(count, random, &spelled(&plan));
+    }
+}
+
+/// Some lines made due at once: the first of them is answered.
+fn lines(count: &mut Count, chosen: &[u8]) {
+    let plan = planned(&[4, 3, 2], 2).expect("two halvings");
+    let rack = Rack::new(&plan);
+    let mut slots = spelled(&plan);
+    for line in chosen {
+        match line {
+            3 => slots.small[0] = 9,
+            4 => slots.lengths[1] = 65_536,
+            5 => slots.lengths[0] = 65_535,
+            6 => slots.small[1] = 11,
+            8 => slots.small[ORDER] = slots.small[ORDER + 1],
+            9 => slots.small[EXPONENTS + 2] = 255,
+            _ => {}
+        }
+    }
+    if chosen.contains(&5) {
+        slots.lengths[2] = 65_535;
+    }
+    let at = if chosen.contains(&12) { rack.total() + 1 } else { rack.total() };
+    for call in [Call::Count, Call::Step(at), Call::Held(at, 1)] {
+        let of_call = |&&line: &&u8| line != 12 || matches!(call, Call::Held(..));
+        let first = chosen.iter().find(of_call);
+        let len = call.cells() + usize::from(chosen.contains(&13));
+        let due = first.map_or_else(|| rack.due(call), |&line| Err(line));
+        expect(count, &slots, call, len, due);
+    }
+}
+
+/// Each slot changed, several changed at once, and slices of every other length.
+fn damaged(count: &mut Count, random: &mut Random, slots: &Slots) {
+    for at in 0..SMALL {
+        for byte in [0, 1, 2, 7, 8, 9, 10, 11, 31, 32, 64, 255] {
+            let mut changed = slots.clone();
+            changed.small[at] = byte;
+            any(count, random, &changed);
+        }
+    }
+    for at in 0..SLOTS {
+        for length in [0, 1, 3, 65_535, 65_536, 1 << 24, u32::MAX] {
+            let mut changed = slots.clone();
+            changed.lengths[at] = length;
+            any(count, random, &changed);
+        }
+    }
+    for _ in 0..200 {
+        let mut changed = slots.clone();
+        for _ in 0..random.between(2, 4) {
+            let number = random.next();
+            match random.below(4) {
+                0 => changed.lengths[random.index(SLOTS)] = number as u32 >> random.below(32),
+                _ => changed.small[random.index(SMALL)] = number as u8 >> random.below(8),
+            }
+        }
+        any(count, random, &changed);
+    }
+    for len in 0..=SMALL + 2 {
+        let mut changed = slots.clone();
+        changed.small.resize(len, 0);
+        any(count, random, &changed);
+        changed.lengths.resize(random.index(SLOTS + 3), 0);
+        any(count, random, &changed);
+    }
+}
+
+/// What is due for any slots, with slices around the due length.
+fn any(count: &mut Count, random: &mut Random, slots: &Slots) {
+    let plan = judged(slots);
+    let rack = plan.as_ref().map(Rack::new).map_err(|&number| number);
+    let (at, board) = (random.below(200), random.below(9) as u32);
+    for call in [Call::Count, Call::Step(at), Call::Held(at, board), Call::Held(0, 0)] {
+        let due = rack.as_ref().map_or_else(|&number| Err(number), |rack| rack.due(call));
+        for len in [call.cells() - 1, call.cells(), call.cells() + 1] {
+            expect(count, slots, call, len, due);
+        }
+    }
+}
+
+/// The whole list position by position beside the independent listing, a step's cost along
+/// the list, and held.
+pub fn bench() {
+    println!("{:<40}{:>12}{:>12}{:>8}", "steps of 8 axes, p 10", "proved", "compare", "ratio");
+    for plan in [most_planned(), most_steps()] {
+        let slots = spelled(&plan);
+        let steps = steps::list(&plan);
+        let total = steps.len() as u64;
+        let mut out = [0; 5];
+        let mut step = |at| {
+            black_box(Call::Step(at).make(black_box(&slots), &mut out));
+        };
+        let proved = nanoseconds(1, || (0..total).for_each(&mut step));
+        let independent = nanoseconds(1, || {
+            black_box(steps::list(black_box(&plan)));
+        });
+        row(&format!("all {total}, each by its position"), proved, independent);
+        for (name, from) in [("first", 0), ("middle", total / 2), ("last", total - 1_000)] {
+            let each = nanoseconds(1, || (from..from + 1_000).for_each(&mut step)) / 1_000.0;
+            println!("{:<40}{each:>9.0} ns", format!("one of the {name} 1,000"));
+        }
+        bench_held(&plan, &steps);
+    }
+}
+
+/// A thousand positions along the list, with boards all over the rack.
+fn bench_held(plan: &Plan, steps: &[Step]) {
+    let slots = spelled(plan);
+    let held = Held::new(plan, steps);
+    let place = |i: usize| (i * steps.len() / 1_000, i as u64 * 7 % plan.boards());
+    let mut out = [0];
+    let proved = nanoseconds(1, || {
+        for (at, board) in (0..1_000).map(place) {
+            let call = Call::Held(at as u64, board as u32);
+            black_box(call.make(black_box(&slots), &mut out));
+        }
+    });
+    let independent = nanoseconds(1, || {
+        for (at, board) in (0..1_000).map(place) {
+            black_box(held.at(black_box(at), board));
+        }
+    });
+    row("held, beside a rack that has its list", proved / 1_000.0, independent / 1_000.0);
+}
+
+fn row(name: &str, proved: f64, independent: f64) {
+    let ratio = proved / independent;
+    println!("{name:<40}{proved:>9.0} ns{independent:>9.0} ns{ratio:>8.2}");
+}
