@@ -22,6 +22,16 @@ use Rattle.boards.proofs.Planned.{order-slot, part-le, label-with, own-board, o
 use Rattle.engine.specs.Expansions.{axisLength, stride}
 use Rattle.engine.proofs.Rooted.{axis-length, points-in, RootBox}
 
+-- a stride so far: the points of the axes from `first` up to axis a
+pub record StrideTo (q : Plan) (first count a : ℕ) : Type 0 where
+  pub counted : count ≡ product (axisLength (planGrid q)) (a - first) first
+  pub fits : count ≤ pointLimit
+
+-- the first point so far: what the axes up to place d add
+pub record PointTo (q : Plan) (labels : List ℕ) (at d : ℕ) : Type 0 where
+  pub counted : at ≡ sumN d (λ i. planGrid q .start i (getD labels i 0) * stride (planGrid q) i)
+  pub fits : at ≤ 1099511627776 * d
+
 module _ (q : Plan) (ok : Accepted q) where
   length-slot : (a : ℕ) → a < q .axes → getD (q .lengths) a 0 ≡ axisLength (planGrid q) a
   length-slot a h =
@@ -45,16 +55,12 @@ module _ (q : Plan) (ok : Accepted q) where
       let c = ok .lengths .small in
       omega arith
 
-  -- ---- a stride, the points of the axes from `first` up to axis a so far
+  -- ---- a stride
 
-  pub record StrideTo (first count a : ℕ) : Type 0 where
-    pub counted : count ≡ product (axisLength (planGrid q)) (a - first) first
-    pub fits : count ≤ pointLimit
-
-  pub stride-begin : (first : ℕ) → StrideTo first 1 first
+  pub stride-begin : (first : ℕ) → StrideTo q first 1 first
   stride-begin first = let z : first - first ≡ 0 = omega arith in record { counted = rw z (unfold product in refl); fits = omega arith }
 
-  pub stride-turn : (first count a : ℕ) → first ≤ a → a < q .axes → StrideTo first count a → StrideTo first (count * getD (q .lengths) a 0) (a + 1)
+  pub stride-turn : (first count a : ℕ) → first ≤ a → a < q .axes → StrideTo q first count a → StrideTo q first (count * getD (q .lengths) a 0) (a + 1)
   stride-turn first count a l h s =
       let z : a + 1 - first ≡ a - first + 1 = omega arith in
       let y : first + (a - first) ≡ a = omega arith in
@@ -62,10 +68,10 @@ module _ (q : Plan) (ok : Accepted q) where
       ap₂ _*_ (s .counted) (length-slot a h) ∙ sym (ap (λ m. product (axisLength (planGrid q)) m first) z ∙ product-last (axisLength (planGrid q)) (a - first) first ∙ ap (λ x. product (axisLength (planGrid q)) (a - first) first * axisLength (planGrid q) x) y) in
       record { counted = n; fits = rw n (part-small (a + 1 - first) first (omega arith)) }
 
-  pub stride-fits : (first count a : ℕ) → first ≤ a → a < q .axes → StrideTo first count a → count * getD (q .lengths) a 0 ≤ pointLimit
+  pub stride-fits : (first count a : ℕ) → first ≤ a → a < q .axes → StrideTo q first count a → count * getD (q .lengths) a 0 ≤ pointLimit
   stride-fits first count a l h s = stride-turn first count a l h s .fits
 
-  pub stride-end : (d count a : ℕ) → d < q .axes → getD (q .order) d 0 + 1 ≤ a → a ≤ q .axes → q .axes ≤ a → StrideTo (getD (q .order) d 0 + 1) count a → (count ≡ stride (planGrid q) d) × (count ≤ pointLimit)
+  pub stride-end : (d count a : ℕ) → d < q .axes → getD (q .order) d 0 + 1 ≤ a → a ≤ q .axes → q .axes ≤ a → StrideTo q (getD (q .order) d 0 + 1) count a → (count ≡ stride (planGrid q) d) × (count ≤ pointLimit)
   unfolding stride
   stride-end d count a h u l k s =
       let x = axes-same q ok in
@@ -82,17 +88,13 @@ module _ (q : Plan) (ok : Accepted q) where
 
   -- ---- the first point
 
-  pub record PointTo (labels : List ℕ) (at d : ℕ) : Type 0 where
-    pub counted : at ≡ sumN d (λ i. planGrid q .start i (getD labels i 0) * stride (planGrid q) i)
-    pub fits : at ≤ 1099511627776 * d
-
-  pub point-begin : (labels : List ℕ) → PointTo labels 0 0
+  pub point-begin : (labels : List ℕ) → PointTo q labels 0 0
   point-begin labels = record { counted = unfold sumN in refl; fits = omega arith }
 
   pub term-fits : (s t : ℕ) → s ≤ lengthLimit → t ≤ pointLimit → s * t ≤ 1099511627776
   term-fits s t a b = let m = mul-le-mul {n₁ = s} {m₁ = t} {n₂ = 65535} {m₂ = 16777216} a b in omega arith
 
-  pub point-turn : (labels : List ℕ) (at d s t : ℕ) → PointTo labels at d → s ≡ planGrid q .start d (getD labels d 0) → s ≤ lengthLimit → t ≡ stride (planGrid q) d → t ≤ pointLimit → PointTo labels (at + s * t) (d + 1)
+  pub point-turn : (labels : List ℕ) (at d s t : ℕ) → PointTo q labels at d → s ≡ planGrid q .start d (getD labels d 0) → s ≤ lengthLimit → t ≡ stride (planGrid q) d → t ≤ pointLimit → PointTo q labels (at + s * t) (d + 1)
   point-turn labels at d s t p es fs et ft =
       let m = term-fits s t fs ft in
       record {
@@ -101,6 +103,13 @@ module _ (q : Plan) (ok : Accepted q) where
       }
 
   -- ---- the box of a board
+
+  pub extent-with : (labels : List ℕ) → Labels q labels → (d : ℕ) → d < q .axes → planGrid q .start d (suc (getD labels d 0)) - planGrid q .start d (getD labels d 0) ≡ extent (planGrid q) (boardWith (planGrid q) (λ i. getD labels i 0)) d
+  unfolding extent
+  extent-with labels fits d h =
+      let x = axes-same q ok in
+      let l = label-with (planGrid q) (lawful q ok) (λ i. getD labels i 0) (λ i u. fits i (omega arith)) d (omega arith) in
+      rw l refl
 
   pub root-box : (b : ℕ) (on : b < boards (planGrid q)) (labels E T : List ℕ) (at : ℕ) → ((d : ℕ) → d < q .axes → getD labels d 0 ≡ label (planGrid q) b d)
       → ((d : ℕ) → d < q .axes → getD E d 0 ≡ extent (planGrid q) (boardWith (planGrid q) (λ i. getD labels i 0)) d)

@@ -6,10 +6,10 @@ ghost use Rattle.cube.specs.Limits.{pointLimit};
 ghost use Rattle.planner.specs.Plans.{listsOf};
 ghost use Rattle.planner.specs.Refusals.{planRefusal};
 ghost use Rattle.engine.specs.Entries.{workCells, stepRefusal};
+use checks::plan_refusal;
+use cube::types::Choice;
 use grid::counts::steps_of;
 use grid::places::share_of;
-use cube::types::Choice;
-use checks::plan_refusal;
 use planner::types::Plan;
 
 // How many points a plan's array has.

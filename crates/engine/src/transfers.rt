@@ -6,10 +6,10 @@ ghost use Rattle.boards.specs.Steps.{transfer};
 ghost use Rattle.boards.specs.Finding.{planGrid, summedIn};
 ghost use Rattle.engine.specs.Memory.{stepped};
 ghost use Rattle.engine.specs.Taking.{Taking};
-use grid::places::next_of;
-use grid::places::region_at;
 use boards::types::Transfer;
 use cells::rows::add_row;
+use grid::places::next_of;
+use grid::places::region_at;
 use planner::types::Plan;
 
 // Adds the sender's cells of a choice to the receiver's; both stand at the start of the region of the last summed axis.

@@ -1,58 +1,66 @@
+use native.Mathlib.Omega.{arith}
+use Rattle.planner.proofs.Accepting.{passed-accepted}
+use borrow.Author.Needs.{needs}
+use Prim.Native.Nat.{ℕ, _+_, _-_, _*_, _≤_, _<_}
+use mathlib.Core.Path.{_≡_, refl, _∙_}
+use lib.ListN.{getD, length, length-set}
+use Rattle.planner.specs.Accepted.{Accepted}
+use Rattle.planner.proofs.PricingLaws.{few-axes, filled-next}
+use Rattle.boards.specs.Grids.{boardWith, extent}
+use Rattle.boards.specs.Finding.{planGrid, Labels}
+use Rattle.engine.proofs.Strided.{extent-with}
 use Rattle.engine.proofs.points.extents_of.Statement.{statement}
 use Rattle.engine.proofs.points.extents_of.Tie as tie
-use Rattle.engine.proofs.points.extents_of.Reads as reads
-use Rattle.engine.proofs.points.extents_of.Lts as lts
-use Rattle.grid.proofs.places.extent_of.Reads as extent-of-reads
 
 abbrev Inv-loop : tie.InvT-loop
-Inv-loop plan labels extents₀ d₀ extents d = ?
+Inv-loop plan labels extents₀ d₀ extents d = (Accepted plan) × (Labels plan labels) × (d ≤ plan .axes) × (length extents ≡ 8) × ((i : ℕ) → i < d → getD extents i 0 ≡ extent (planGrid plan) (boardWith (planGrid plan) (λ i. getD labels i 0)) i)
 
 abbrev μ-loop : tie.MeasureT-loop
-μ-loop plan labels extents₀ d₀ extents d = ?
+μ-loop plan labels extents₀ d₀ extents d = plan .axes - d
 
 -- src/points.rt:51:5
 loop-holds : tie.Need-loop-holds Inv-loop μ-loop
-loop-holds c = ?
+loop-holds c = let gd = c .good .0 .1 .1 .1 .1 in let ok = passed-accepted (c .args .plan) (gd .0 .1 .0 .1) (gd .1 .0 .1 .0 .1) (gd .1 .1 .0 .1 .0 .1) (c .pre .0) in (ok, c .pre .1, omega arith, refl, λ i h. absurd (omega arith))
 
 -- src/points.rt:51:15
 cast-if1 : tie.Need-cast-if1 Inv-loop μ-loop
-cast-if1 c = ?
+cast-if1 c = search needs
 
 -- src/points.rt:52:41
 mul-extent-of : tie.Need-mul-extent-of Inv-loop μ-loop
-mul-extent-of c = ?
+mul-extent-of c = let z = c .before .before in let f = few-axes (z .loop .inv .0) in omega (arith, c .if1 .taken)
 
 -- src/points.rt:52:41
 array-read-extent-of : tie.Need-array-read-extent-of Inv-loop μ-loop
-array-read-extent-of c = ?
+array-read-extent-of c = let z = c .before .before in let f = few-axes (z .loop .inv .0) in omega (arith, c .if1 .taken)
 
 -- src/points.rt:52:13
 extent-of-requires : tie.Need-extent-of-requires Inv-loop μ-loop
-extent-of-requires c κs = ?
+extent-of-requires c κs = let z = c .before .before in (z .before .pre .0, c .if1 .taken, z .before .pre .1 (z .loop .d) (c .if1 .taken))
 
 -- src/points.rt:53:9
 mul-extents : tie.Need-mul-extents Inv-loop μ-loop
-mul-extents c = ?
+mul-extents c = let z = c .before .before .before in let f = few-axes (z .loop .inv .0) in omega (arith, c .before .if1 .taken)
 
 -- src/points.rt:53:9
 array-write-extents : tie.Need-array-write-extents Inv-loop μ-loop
-array-write-extents c = ?
+array-write-extents c = let z = c .before .before .before in let f = few-axes (z .loop .inv .0) in omega (arith, c .before .if1 .taken)
 
 -- src/points.rt:54:9
 add-d : tie.Need-add-d Inv-loop μ-loop
-add-d c = ?
+add-d c = let z = c .before .before .before in let f = few-axes (z .loop .inv .0) in omega (arith, c .before .if1 .taken)
 
 -- src/points.rt:51:5
 loop-less : tie.Need-loop-less Inv-loop μ-loop
-loop-less c = ?
+loop-less c = omega (arith, c .before .if1 .taken)
 
 -- src/points.rt:51:5
 loop-again : tie.Need-loop-again Inv-loop μ-loop
-loop-again c = ?
+loop-again c = let z = c .before .before .before in let s = z .before in let i = z .loop .inv in let h = c .before .if1 .taken in let f = few-axes (i .0) in (i .0, i .1, omega (arith, h), simp length-set (i .3), rw (c .extent-of .ensures .0, extent-with (s .args .plan) (i .0) (s .args .t2) (i .1) (z .loop .d) h) (filled-next (extent (planGrid (s .args .plan)) (boardWith (planGrid (s .args .plan)) (λ i. getD (s .args .t2) i 0))) (z .loop .extents) (z .loop .d) (omega (arith, i .3, h)) (i .4)))
 
 -- src/points.rt:45:1
 returns : tie.Need-returns Inv-loop μ-loop
-returns c = ?
+returns c = let z = c .before .before in let i = z .loop .inv in (i .3, λ d h. i .4 d (omega (arith, c .if1 .left, h)))
 
 pub extents-of-spec : {M : Type 1} → statement M
 extents-of-spec =
