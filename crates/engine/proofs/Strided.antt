@@ -10,6 +10,7 @@ use lib.Seq.{getD-take}
 use Rattle.cube.specs.Limits.{lengthLimit, pointLimit}
 use Rattle.cube.specs.Boxes.{sumN, product}
 use Rattle.cube.specs.Choices.{points}
+use Rattle.cube.specs.Tree.{next}
 use Rattle.cube.proofs.Naturals.{sumN-cong}
 use Rattle.cube.proofs.Products.{product-last}
 use Rattle.planner.specs.Plans.{listsOf}
@@ -123,3 +124,8 @@ module _ (q : Plan) (ok : Accepted q) where
         strides = λ d h. ts d (omega arith);
         first = p ∙ ap (λ n. sumN n (λ d. planGrid q .start d (getD labels d 0) * stride (planGrid q) d)) (sym x) ∙ sumN-cong (planGrid q .axes) (λ d h. ap (λ l. planGrid q .start d l * stride (planGrid q) d) (own d (omega arith)));
       }
+
+-- a choice with no earlier axis is the root
+pub next-empty : (Y : List ℕ) → next Y ≡ 0 → Y ≡ []
+next-empty [] e = refl
+next-empty (j ∷ Y) e = absurd (omega arith)
