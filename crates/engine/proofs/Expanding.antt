@@ -57,7 +57,7 @@ module _ (g : Grid) (array : ℕ → ℤ) (Y : List ℕ) (work : ℕ → ℤ) (b
   unfolding after forms
   expand-not-lead t e = rw (e, t) (rw and-false)
 
-  expand-past : boards g ≤ boardOf g i → after g array (expand Y) work i ≡ work i
+  pub expand-past : boards g ≤ boardOf g i → after g array (expand Y) work i ≡ work i
   unfolding after forms
   expand-past h = rw (le-ltb (boardOf g i) (boards g) h)
 

@@ -18,3 +18,4 @@ pub mod Moved
 pub mod Formed
 pub mod Rooted
 pub mod Strided
+pub mod Expanded

@@ -68,7 +68,7 @@ region-from-lt g (suc m) d r h =
     let h′ : r + regionStart g d < regionStart g (d + 1 + m) = (rw e at h) in
     rw (t, e) (region-from-lt g m (d + 1) (r - regionSize g d) (omega arith)))
 
-region-lt : (g : Grid) → 0 < share g → (i : ℕ) → regionOf g i < g .axes
+pub region-lt : (g : Grid) → 0 < share g → (i : ℕ) → regionOf g i < g .axes
 unfolding regionOf
 region-lt g some i =
     let l : i % share g < share g = mod-lt i some in

@@ -42,7 +42,6 @@ stride g d = product (axisLength g) (g .axes - (g .order d + 1)) (g .order d + 1
 -- what forming the child that sums out the axis at place j asks: a board of the rack, a choice that sums out earlier axes alone, and a work area that is large enough
 pub record Forms (q : Plan) (mask b j n : ℕ) : Type 0 where
   pub passed : planRefusal q ≡ 0
-  pub small : mask < 2 ^ q .axes
   pub board : b < boards (planGrid q)
   pub later : next (summedIn q mask) ≤ j
   pub inside : j < q .axes
