@@ -19,3 +19,4 @@ pub mod Formed
 pub mod Rooted
 pub mod Strided
 pub mod Expanded
+pub mod Stepped
