@@ -57,8 +57,8 @@ fn put_plane(
     let t = strides[d];
     let f = extents[d + 1];
     let u = strides[d + 1];
-    for x in 0..e {
-        put_line(result, work, src + x * f, at + x * t, u, f);
+    for row in 0..e {
+        put_line(result, work, src + row * f, at + row * t, u, f);
     }
     e * f
 }

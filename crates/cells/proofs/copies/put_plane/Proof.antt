@@ -1,4 +1,4 @@
--- `put_plane` meets its contract. The invariant: the first x rows are copied.
+-- `put_plane` meets its contract. The invariant: the first rows are copied.
 use borrow.Author.Needs.{needs}
 use Prim.Native.Nat.{_≤_, _<_, _-_, _+_, _*_}
 use mathlib.Core.Path.{_≡_, refl}
@@ -12,10 +12,10 @@ use Rattle.cells.proofs.copies.put_plane.Statement.{statement}
 use Rattle.cells.proofs.copies.put_plane.Tie as tie
 
 abbrev Inv-loop : tie.InvT-loop
-Inv-loop result₀ work extents strides d at src e t f u x₀ result x = (x ≤ e) × (length result ≡ length result₀) × (result ≡ placed result₀ (x * getD extents (d + 1) 0) (boxPlace extents strides 2 d at) (from work src))
+Inv-loop result₀ work extents strides d at src e t f u row₀ result row = (row ≤ e) × (length result ≡ length result₀) × (result ≡ placed result₀ (row * getD extents (d + 1) 0) (boxPlace extents strides 2 d at) (from work src))
 
 abbrev μ-loop : tie.MeasureT-loop
-μ-loop result₀ work extents strides d at src e t f u x₀ result x = e - x
+μ-loop result₀ work extents strides d at src e t f u row₀ result row = e - row
 
 mul-e : tie.Need-mul-e Inv-loop μ-loop
 mul-e c = search needs
@@ -55,42 +55,42 @@ mul-put-line : tie.Need-mul-put-line Inv-loop μ-loop
 mul-put-line c =
     let l = c .before .before in
     let s = l .before .before .before .before .before .before .before in
-    let h : l .loop .x < getD (s .args .extents .now) (s .args .d) 0 = omega arith in
+    let h : l .loop .row < getD (s .args .extents .now) (s .args .d) 0 = omega arith in
     omega (arith, plane-fits (s .pre) _ h .1)
 
 add-put-line : tie.Need-add-put-line Inv-loop μ-loop
 add-put-line c =
     let l = c .before .before in
     let s = l .before .before .before .before .before .before .before in
-    let h : l .loop .x < getD (s .args .extents .now) (s .args .d) 0 = omega arith in
+    let h : l .loop .row < getD (s .args .extents .now) (s .args .d) 0 = omega arith in
     omega (arith, plane-fits (s .pre) _ h .1)
 
 mul-put-line-2 : tie.Need-mul-put-line-2 Inv-loop μ-loop
 mul-put-line-2 c =
     let l = c .before .before in
     let s = l .before .before .before .before .before .before .before in
-    let h : l .loop .x < getD (s .args .extents .now) (s .args .d) 0 = omega arith in
+    let h : l .loop .row < getD (s .args .extents .now) (s .args .d) 0 = omega arith in
     omega (arith, plane-reads (s .pre) _ h)
 
 add-put-line-2 : tie.Need-add-put-line-2 Inv-loop μ-loop
 add-put-line-2 c =
     let l = c .before .before in
     let s = l .before .before .before .before .before .before .before in
-    let h : l .loop .x < getD (s .args .extents .now) (s .args .d) 0 = omega arith in
+    let h : l .loop .row < getD (s .args .extents .now) (s .args .d) 0 = omega arith in
     omega (arith, plane-reads (s .pre) _ h)
 
 put-line-requires : tie.Need-put-line-requires Inv-loop μ-loop
 put-line-requires c κs =
     let l = c .before .before in
     let s = l .before .before .before .before .before .before .before in
-    let h : l .loop .x < getD (s .args .extents .now) (s .args .d) 0 = omega arith in
+    let h : l .loop .row < getD (s .args .extents .now) (s .args .d) 0 = omega arith in
     rw (l .loop .inv .1) (plane-fits (s .pre) _ h)
 
-add-x : tie.Need-add-x Inv-loop μ-loop
-add-x c =
+add-row : tie.Need-add-row Inv-loop μ-loop
+add-row c =
     let l = c .before .before .before .before in
     let s = l .before .before .before .before .before .before .before in
-    let h : l .loop .x < getD (s .args .extents .now) (s .args .d) 0 = omega arith in
+    let h : l .loop .row < getD (s .args .extents .now) (s .args .d) 0 = omega arith in
     omega (arith, l .before .before .before .before .before .shared-slice-known2 .given (s .args .d), l .before .before .before .before .shared-slice-known3 .given (s .args .d))
 
 loop-less : tie.Need-loop-less Inv-loop μ-loop
@@ -100,8 +100,8 @@ loop-again : tie.Need-loop-again Inv-loop μ-loop
 loop-again c =
     let l = c .before .before .before .before in
     let s = l .before .before .before .before .before .before .before in
-    let h : l .loop .x < getD (s .args .extents .now) (s .args .d) 0 = omega arith in
-    (search needs, search needs, rw (c .before .put-line .ensures, l .loop .inv .2) (plane-put (s .args .result .now) (s .args .work .now) (s .args .extents .now) (s .args .strides .now) (s .args .d) (s .args .at) (s .args .src) (l .loop .x)))
+    let h : l .loop .row < getD (s .args .extents .now) (s .args .d) 0 = omega arith in
+    (search needs, search needs, rw (c .before .put-line .ensures, l .loop .inv .2) (plane-put (s .args .result .now) (s .args .work .now) (s .args .extents .now) (s .args .strides .now) (s .args .d) (s .args .at) (s .args .src) (l .loop .row)))
 
 mul-result : tie.Need-mul-result Inv-loop μ-loop
 mul-result c =
@@ -115,7 +115,7 @@ returns : tie.Need-returns Inv-loop μ-loop
 returns c =
     let l = c .before in
     let s = l .before .before .before .before .before .before .before in
-    let x : l .loop .x ≡ getD (s .args .extents .now) (s .args .d) 0 = omega arith in
+    let x : l .loop .row ≡ getD (s .args .extents .now) (s .args .d) 0 = omega arith in
     rw (plane-size (s .pre)) (refl, rw x at (l .loop .inv .2))
 
 pub put-plane-spec : {M : Type 1} → statement M
@@ -140,7 +140,7 @@ put-plane-spec =
     mul-put-line-2
     add-put-line-2
     put-line-requires
-    add-x
+    add-row
     loop-less
     loop-again
     mul-result
