@@ -10,8 +10,8 @@ use Rattle.cube.specs.Boxes.{sumZ, product}
 use Rattle.cube.proofs.Sums.{sum-cong}
 use Rattle.cube.proofs.Products.{product-append}
 use Rattle.cells.specs.Wrapped.{wrapped}
-use Rattle.cells.specs.Rows.{every, combs, written, axisSums, rowSums}
-use Rattle.cells.specs.Strides.{boxSize, offset, boxCell, InArray, Boxed, Summed}
+use Rattle.cells.specs.Rows.{every, combs, placed, written, axisSums, rowSums}
+use Rattle.cells.specs.Strides.{boxSize, offset, boxPlace, boxCell, InArray, Boxed, Summed}
 use Rattle.cells.proofs.Writing.{row-fits, joined, same, block-cell}
 use Rattle.cells.proofs.Parts.{positive, part-within, part-reads, row-reads, part-cell, row-cell, size-of, offset-at, row-offset}
 
@@ -99,7 +99,7 @@ here-writes {w} {a} {e} {t} {n} {j} {r} {at} {dst} b = rw (sub-self, one-mul) at
 -- the sum down a line is the only cell of a child
 pub line-cell : (w a : List ℤ) (e t : List ℕ) (n j r at dst : ℕ) → j + 1 ≡ n → r ≡ boxSize e (n - (j + 1)) (j + 1)
     → set w dst (wrapped (sumZ (getD e j 0) (every a at (getD t j 0)))) ≡ written w dst r (rowSums (boxCell a e t (n - j) j at) (getD e j 0) r)
-unfolding boxSize product rowSums written
+unfolding boxSize product rowSums written placed
 line-cell w a e t n j r at dst q z =
     let k : n - (j + 1) ≡ 0 = omega arith in
     let u : n - j ≡ 1 = omega arith in
@@ -117,7 +117,7 @@ pub slab-fits : {w a : ℕ} {e t : List ℕ} {n j r at dst : ℕ} → Summed w a
 slab-fits {w} {a} {e} {t} {n} {j} {r} {at} {dst} b x h =
     let y = b .below in
     let q : n - j ≡ suc (n - (j + 1)) = omega arith in
-    record { within = part-within e t q j (b .within) x h; writes = rw (b .size) at (here-writes b) }
+    record { within = part-within e t q j (b .within) x h; fits = rw (b .size) at (here-writes b) }
 
 pub here-reads : {w a : ℕ} {e t : List ℕ} {n j r d at dst : ℕ} → Summed w a e t n j r d at dst → (x : ℕ) → x < getD e d 0 → at + x * getD t d 0 < a
 here-reads {w} {a} {e} {t} {n} {j} {r} {d} b x h =
@@ -153,7 +153,7 @@ module _ (e t : List ℕ) (d : ℕ) where
       let g : getD e (d + 1) 0 ≡ getD e (d + 1) 0 - 1 + 1 = omega (arith, p .1) in
       let y : getD e (d + 1) 0 - 1 < getD e (d + 1) 0 = omega (arith, p .1) in
       let r = row-fits (getD e d 0 - 1) (getD e d 0) (getD e (d + 1) 0) (omega (arith, p .0)) in
-      let k = b .reads ((getD e d 0 - 1) * getD e (d + 1) 0 + (getD e (d + 1) 0 - 1)) (rw mul-one (omega (arith, r, p .1))) in
+      let k = b .places ((getD e d 0 - 1) * getD e (d + 1) 0 + (getD e (d + 1) 0 - 1)) (rw mul-one (omega (arith, r, p .1))) in
       let m : getD e d 0 * getD t d 0 ≡ (getD e d 0 - 1) * getD t d 0 + getD t d 0 = ap (λ (i : ℕ). i * getD t d 0) f ∙ add-mul _ 1 _ ∙ rw one-mul in
       let n : getD e (d + 1) 0 * getD t (d + 1) 0 ≡ (getD e (d + 1) 0 - 1) * getD t (d + 1) 0 + getD t (d + 1) 0 = ap (λ (i : ℕ). i * getD t (d + 1) 0) g ∙ add-mul _ 1 _ ∙ rw one-mul in
       (omega (arith, m, n, k, pair-offset (getD e d 0 - 1) (getD e (d + 1) 0 - 1) y), p .0, p .1)
@@ -171,7 +171,7 @@ module _ {w a : ℕ} {e t : List ℕ} {n j r at dst : ℕ} (b : Summed w a e t n
       rw upright-size (omega (arith, p .0), p .1, rw upright-size at (here-writes b))
 
   pub upright-cells : (l v : List ℤ) → written v dst r (combs l at (getD t (j + 1) 0) (getD e j 0) (getD t j 0)) ≡ written v dst r (rowSums (boxCell l e t (n - j) j at) (getD e j 0) r)
-  unfolding combs rowSums boxCell every
+  unfolding combs rowSums boxPlace boxCell every
   upright-cells l v = same v dst r _ _ (λ i h. ap wrapped (sum-cong (getD e j 0) (λ m k. cell i h m)))
     where
       cell : (i : ℕ) → i < r → (m : ℕ) → getD l (at + i * getD t (j + 1) 0 + m * getD t j 0) (pos 0) ≡ getD l (at + offset e t (n - j) j (m * r + i)) (pos 0)
@@ -200,7 +200,7 @@ module _ {w a : ℕ} {e t : List ℕ} {n j r d at dst : ℕ} (b : Summed w a e t
       rw (← q) (p .0, p .2, omega (arith, b .writes, lines-count))
 
   pub lines-cells : (l v : List ℤ) → written v dst (getD e d 0) (combs l at (getD t d 0) (getD e j 0) (getD t j 0)) ≡ written v dst (boxSize e (j - d) d * r) (axisSums (boxCell l e t (n - d) d at) (getD e j 0) r)
-  unfolding combs axisSums boxCell every
+  unfolding combs axisSums boxPlace boxCell every
   lines-cells l v = rw (← lines-count) (same v dst (getD e d 0) _ _ (λ x h. ap wrapped (sum-cong (getD e j 0) (λ m k. cell x m k))))
     where
       cell : (x m : ℕ) → m < getD e j 0 → getD l (at + x * getD t d 0 + m * getD t j 0) (pos 0) ≡ getD l (at + offset e t (n - d) d ((x / r * getD e j 0 + m) * r + x % r)) (pos 0)

@@ -8,7 +8,7 @@ use native.Mathlib.Nat.{div-add-mod', mul-add-div-right, mul-add-mod-self-right,
 use lib.ListN.{getD}
 use lib.IntN.{ℤ}
 use Rattle.cube.specs.Boxes.{product}
-use Rattle.cells.specs.Strides.{boxSize, offset, boxCell}
+use Rattle.cells.specs.Strides.{boxSize, offset, boxPlace, boxCell}
 
 -- two boxes with the same cells at the same places
 pub record Same (e t : List ℕ) (m d : ℕ) (e′ t′ : List ℕ) (m′ d′ : ℕ) : Type 0 where
@@ -46,5 +46,5 @@ module _ (e t e′ t′ : List ℕ) (m m′ d d′ : ℕ) where
 
 -- equal boxes have equal cells
 pub cells-same : {e t e′ t′ : List ℕ} {m m′ d d′ : ℕ} → Same e t m d e′ t′ m′ d′ → (a : List ℤ) (at q : ℕ) → boxCell a e t m d at q ≡ boxCell a e′ t′ m′ d′ at q
-unfolding boxCell
+unfolding boxPlace boxCell
 cells-same s a at q = rw (s .offset-same q)

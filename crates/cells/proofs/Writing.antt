@@ -1,53 +1,40 @@
 -- Laws of a slice into which values were written.
-use Prim.Native.Nat.{ℕ, zero, suc, _≤_, _<_, _-_, _+_, _*_, _/_, _%_}
+use Prim.Native.Nat.{ℕ, _≤_, _<_, _-_, _+_, _*_, _/_, _%_}
 use mathlib.Core.Path.{_≡_, sym, _∙_, refl, ap, ap₂}
 use mathlib.Core.Logic.{_⊎_, inl, inr}
 use mathlib.Core.Bool.{Bool, true, false, _&&_}
 use mathlib.Core.List.{List}
 use native.Mathlib.Omega.{arith}
 use native.Mathlib.Numerals.{add-one}
-use native.Mathlib.Nat.{add-zero, mul-le-mul-right, add-mul, one-mul, mul-assoc}
+use native.Mathlib.Nat.{mul-le-mul-right, add-mul, one-mul, mul-assoc}
 use borrow.Author.Tests.{ltb-true, ltb-false, leb-true, leb-false}
 use lib.Dec.{ltb, leb}
-use lib.ListN.{length, getD, set, length-set}
-use lib.Seq.{getD-set-same, getD-set-other, ext-getD}
+use lib.ListN.{length, getD, set}
+use lib.Seq.{ext-getD}
 use lib.IntN.{ℤ, pos, _+ℤ_}
 use Rattle.cube.specs.Boxes.{pick, sumZ, table}
 use Rattle.cube.proofs.Sums.{by, sum-cong}
 use Rattle.cube.proofs.Boxing.{row-of, rest-of}
 use Rattle.cube.proofs.Tables.{table-of}
 use Rattle.cells.specs.Wrapped.{residue, wrapped}
-use Rattle.cells.specs.Rows.{from, every, written, zeros, addAt, addedTo, axisSums, rowSums, Apart}
+use Rattle.cells.specs.Rows.{from, every, placed, written, zeros, addAt, addedTo, axisSums, rowSums, Apart}
 use Rattle.cells.proofs.Modulo.{wrapped-add}
+use Rattle.cells.proofs.Placing.{length-placed, unplaced, at-place, placed-cong, placed-more, placed-joined}
 
 pub length-written : (w : List ℤ) (at n : ℕ) (f : ℕ → ℤ) → length (written w at n f) ≡ length w
 unfolding written
-length-written w at zero f = refl
-length-written w at (suc n) f = length-set (written w at n f) (at + n) (f n) ∙ length-written w at n f
+length-written w at n f = length-placed w n _ f
 
 -- a cell before or after those written
 pub outside : (w : List ℤ) (at n : ℕ) (f : ℕ → ℤ) (j : ℕ) → (j < at) ⊎ (at + n ≤ j) → getD (written w at n f) j (pos 0) ≡ getD w j (pos 0)
 unfolding written
-outside w at zero f j h = refl
-outside w at (suc n) f j (inl h) =
-    getD-set-other (written w at n f) (at + n) j (f n) (pos 0) (λ e. omega (arith, e)) ∙ outside w at n f j (inl h)
-outside w at (suc n) f j (inr h) =
-    getD-set-other (written w at n f) (at + n) j (f n) (pos 0) (λ e. omega (arith, e)) ∙ outside w at n f j (inr (omega arith))
+outside w at n f j (inl h) = unplaced w n _ f j (λ i k e. omega arith)
+outside w at n f j (inr h) = unplaced w n _ f j (λ i k e. omega arith)
 
 -- a cell written
 pub inside : (w : List ℤ) (at n : ℕ) (f : ℕ → ℤ) (i : ℕ) → at + n ≤ length w → i < n → getD (written w at n f) (at + i) (pos 0) ≡ f i
 unfolding written
-inside w at zero f i b h = absurd (omega arith)
-inside w at (suc n) f i b h = go (ltb i n) refl (λ q. inside w at n f i (omega arith) q)
-  where
-    go : (t : Bool) → ltb i n ≡ t → (i < n → getD (written w at n f) (at + i) (pos 0) ≡ f i)
-        → getD (set (written w at n f) (at + n) (f n)) (at + i) (pos 0) ≡ f i
-    go true e r =
-        let q = ltb-true i n e in
-        getD-set-other (written w at n f) (at + n) (at + i) (f n) (pos 0) (λ e. omega (arith, e)) ∙ r q
-    go false e r =
-        let q : i ≡ n = omega (arith, ltb-false i n e) in
-        rw q (getD-set-same (written w at n f) (at + n) (f n) (pos 0) (omega (arith, length-written w at n f)))
+inside w at n f i b h = at-place w n (λ i. at + i) f (λ i k l r e. omega arith) i h (omega arith)
 
 -- a list that has the values written, and else the old ones
 pub is-written : (w l : List ℤ) (at n : ℕ) (f : ℕ → ℤ) → length l ≡ length w → at + n ≤ length w
@@ -88,22 +75,22 @@ written-table w at n f b = table-of (length w) _ (written w at n f) (pos 0) (len
 -- values that are equal
 pub same : (w : List ℤ) (at n : ℕ) (f g : ℕ → ℤ) → ((i : ℕ) → i < n → f i ≡ g i) → written w at n f ≡ written w at n g
 unfolding written
-same w at zero f g h = refl
-same w at (suc n) f g h = ap₂ (λ (l : List ℤ) (x : ℤ). set l (at + n) x) (same w at n f g (λ i q. h i (omega arith))) (h n (omega arith))
+same w at n f g h = placed-cong w n (λ i k. refl) h
 
 -- one value more
 pub one-more : (w : List ℤ) (at n : ℕ) (f : ℕ → ℤ) (x : ℤ) → x ≡ f n → set (written w at n f) (at + n) x ≡ written w at (n + 1) f
 unfolding written
-one-more w at n f x e = rw (add-one, e)
+one-more w at n f x e = placed-more w n _ f x e
+
+-- places one apart are neighbours
+pub placed-line : (w : List ℤ) (at step n : ℕ) (f : ℕ → ℤ) → step ≡ 1 → written w at n f ≡ placed w n (λ i. at + i * step) f
+unfolding written
+placed-line w at step n f q = placed-cong w n (λ i h. let e : at + i ≡ at + i * 1 = omega arith in rw q e) (λ i h. refl)
 
 -- k values more, on the right
 pub joined : (w : List ℤ) (at n k : ℕ) (f g : ℕ → ℤ) → ((i : ℕ) → i < k → g i ≡ f (n + i)) → written (written w at n f) (at + n) k g ≡ written w at (n + k) f
 unfolding written
-joined w at n zero f g h = rw add-zero
-joined w at n (suc k) f g h =
-    let e : at + n + k ≡ at + (n + k) = omega arith in
-    let s : n + suc k ≡ suc (n + k) = omega arith in
-    rw (s, e, h k (omega arith)) (ap (λ (l : List ℤ). set l (at + (n + k)) (f (n + k))) (joined w at n k f g (λ i q. h i (omega arith))))
+joined w at n k f g h = placed-joined w n k _ _ _ _ (λ i l. let e : at + n + i ≡ at + (n + i) = omega arith in e) h
 
 -- the same cells, twice
 pub over : (w : List ℤ) (at n : ℕ) (f g : ℕ → ℤ) → at + n ≤ length w → written (written w at n f) at n g ≡ written w at n g
@@ -174,10 +161,15 @@ pub rows-end : (w : List ℤ) (a at e n : ℕ) → at + n ≤ length w → a + e
 unfolding rowSums from
 rows-end w a at e n b h = over w at n zeros _ b ∙ same w at n _ _ (λ i k. ap wrapped (sum-cong e (λ m q. outside w at n zeros _ (inl (omega (arith, row-fits m e n q))))))
 
+-- counted from two places
+pub from-from : (w : List ℤ) (a b i : ℕ) → from w (a + b) i ≡ from w a (b + i)
+unfolding from
+from-from w a b i = let e : a + b + i ≡ a + (b + i) = omega arith in rw e
+
 -- a cell left of those written, counted from two places
 pub left-of : (w : List ℤ) (at n : ℕ) (f : ℕ → ℤ) (a b i : ℕ) → a + (b + i) < at → from (written w at n f) (a + b) i ≡ from w a (b + i)
 unfolding from
-left-of w at n f a b i h = let e : a + b + i ≡ a + (b + i) = omega arith in rw e (outside w at n f (a + (b + i)) (inl h))
+left-of w at n f a b i h = from-from (written w at n f) a b i ∙ outside w at n f (a + (b + i)) (inl h)
 
 -- the sum down a column of rows that stand left of the cells written
 pub column-cell : (w : List ℤ) (a at e n i : ℕ) (f : ℕ → ℤ) → a + e * n ≤ at → i < n

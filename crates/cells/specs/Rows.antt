@@ -15,10 +15,14 @@ from l at i = getD l (at + i) (pos 0)
 unfoldable pub every : List ℤ → ℕ → ℕ → (ℕ → ℤ)
 every l at step m = getD l (at + m * step) (pos 0)
 
+-- w with the values f 0, f 1, .., n of them, at the places g 0, g 1, ..
+unfoldable pub placed : List ℤ → ℕ → (ℕ → ℕ) → (ℕ → ℤ) → List ℤ
+placed w zero g f = w
+placed w (suc n) g f = set (placed w n g f) (g n) (f n)
+
 -- w with the values f 0, f 1, .. in the n cells from a place on
 unfoldable pub written : List ℤ → ℕ → ℕ → (ℕ → ℤ) → List ℤ
-written w at zero f = w
-written w at (suc n) f = set (written w at n f) (at + n) (f n)
+written w at n f = placed w n (λ i. at + i) f
 
 unfoldable pub zeros : ℕ → ℤ
 zeros i = pos 0

@@ -16,21 +16,24 @@ unfoldable pub offset : List ℕ → List ℕ → ℕ → ℕ → ℕ → ℕ
 offset e t zero d q = 0
 offset e t (suc m) d q = q / boxSize e m (d + 1) * getD t d 0 + offset e t m (d + 1) (q % boxSize e m (d + 1))
 
--- the cells of the box whose first one stands at a place of the array
+-- the places of the cells of the box whose first one stands at a place of the array, and what they hold
+unfoldable pub boxPlace : List ℕ → List ℕ → ℕ → ℕ → ℕ → (ℕ → ℕ)
+boxPlace e t m d at q = at + offset e t m d q
+
 unfoldable pub boxCell : List ℤ → List ℕ → List ℕ → ℕ → ℕ → ℕ → (ℕ → ℤ)
-boxCell array e t m d at q = getD array (at + offset e t m d q) (pos 0)
+boxCell array e t m d at q = getD array (boxPlace e t m d at q) (pos 0)
 
 -- the box lies within an array of a points, and has cells
 pub record InArray (a : ℕ) (e t : List ℕ) (m d at : ℕ) : Type 0 where
   pub extents : d + m ≤ length e
   pub strides : d + m ≤ length t
   pub some : 0 < boxSize e m d
-  pub reads : (q : ℕ) → q < boxSize e m d → at + offset e t m d q < a
+  pub places : (q : ℕ) → q < boxSize e m d → at + offset e t m d q < a
 
--- and its cells go to a slice of w cells from dst on
-pub record Boxed (w a : ℕ) (e t : List ℕ) (m d at dst : ℕ) : Type 0 where
+-- and a slice of w cells has as many cells from a place on, where the box's cells stand side by side
+pub record Boxed (w a : ℕ) (e t : List ℕ) (m d at beside : ℕ) : Type 0 where
   pub within : InArray a e t m d at
-  pub writes : dst + boxSize e m d ≤ w
+  pub fits : beside + boxSize e m d ≤ w
 
 -- n axes, of which axis j is summed out, seen from axis d on; the axes after j have inner cells
 pub record Summed (w a : ℕ) (e t : List ℕ) (n j inner d at dst : ℕ) : Type 0 where

@@ -132,7 +132,7 @@ fn sum_slabs(
     }
 }
 
-// The same where one axis follows axis j, cell by cell: for short rows.
+// The same where one axis follows axis j, cell by cell: faster for short rows.
 fn sum_upright(
     work: &mut [i64],
     array: &[i32],

@@ -1,3 +1,4 @@
 pub mod boxes;
+pub mod copies;
 pub mod rows;
 pub mod wrapping;

@@ -26,14 +26,6 @@ fn add_cell(work: &mut [i64], i: usize, x: i64)
     work[i] = wrapping_add(old, x);
 }
 
-// Adds a point of the array to one cell.
-fn add_point(work: &mut [i64], i: usize, x: i32)
-    requires { ⌜ i < length (now work) ⌝ }
-    ensures { λ _. ⌜ now (work .exit) ≡ addAt (now (work .entry)) i x ⌝ }
-{
-    add_cell(work, i, x as i64);
-}
-
 // Adds n cells to n others of the same slice.
 pub fn add_row(work: &mut [i64], src: usize, dst: usize, n: usize)
     requires { ⌜ (src + n ≤ length (now work)) × (dst + n ≤ length (now work)) × Apart src dst n ⌝ }
@@ -45,7 +37,15 @@ pub fn add_row(work: &mut [i64], src: usize, dst: usize, n: usize)
     }
 }
 
-// Adds n points of the array to n cells.
+// Adds a point of the array to one cell.
+fn add_point(work: &mut [i64], i: usize, x: i32)
+    requires { ⌜ i < length (now work) ⌝ }
+    ensures { λ _. ⌜ now (work .exit) ≡ addAt (now (work .entry)) i x ⌝ }
+{
+    add_cell(work, i, x as i64);
+}
+
+// Adds n points of the array that are neighbours to n cells.
 fn add_points(work: &mut [i64], array: &[i32], src: usize, dst: usize, n: usize)
     requires { ⌜ (src + n ≤ length (now array)) × (dst + n ≤ length (now work)) ⌝ }
     ensures { λ _. ⌜ now (work .exit) ≡ written (now (work .entry)) dst n (addedTo (now (work .entry)) dst (from (now (array .entry)) src)) ⌝ }
@@ -53,17 +53,6 @@ fn add_points(work: &mut [i64], array: &[i32], src: usize, dst: usize, n: usize)
     for i in 0..n {
         let x = array[src + i];
         add_point(work, dst + i, x);
-    }
-}
-
-// Sums e rows of n cells into one.
-fn sum_rows(work: &mut [i64], src: usize, dst: usize, e: usize, n: usize)
-    requires { ⌜ (src + e * n ≤ dst) × (dst + n ≤ length (now work)) ⌝ }
-    ensures { λ _. ⌜ now (work .exit) ≡ written (now (work .entry)) dst n (rowSums (from (now (work .entry)) src) e n) ⌝ }
-{
-    clear(work, dst, n);
-    for m in 0..e {
-        add_row(work, src + m * n, dst, n);
     }
 }
 
@@ -90,7 +79,7 @@ pub fn add_line(work: &mut [i64], array: &[i32], src: usize, step: usize, dst: u
     }
 }
 
-// The sum of n cells, each step further than the one before.
+// The sum of n cells, each step further than the one before. It stays in a register.
 fn sum_every(work: &[i64], at: usize, n: usize, step: usize) -> i64
     requires { ⌜ at + n * step < length (now work) + step ⌝ }
     ensures { λ r. ⌜ r ≡ wrapped (sumZ n (every (now (work .entry)) at step)) ⌝ }
@@ -103,7 +92,18 @@ fn sum_every(work: &[i64], at: usize, n: usize, step: usize) -> i64
     sum
 }
 
-// The same sums, cell by cell: for short rows.
+// Sums e rows of n cells into one.
+fn sum_rows(work: &mut [i64], src: usize, dst: usize, e: usize, n: usize)
+    requires { ⌜ (src + e * n ≤ dst) × (dst + n ≤ length (now work)) ⌝ }
+    ensures { λ _. ⌜ now (work .exit) ≡ written (now (work .entry)) dst n (rowSums (from (now (work .entry)) src) e n) ⌝ }
+{
+    clear(work, dst, n);
+    for m in 0..e {
+        add_row(work, src + m * n, dst, n);
+    }
+}
+
+// The same cell by cell: faster for short rows.
 fn sum_columns(work: &mut [i64], src: usize, dst: usize, e: usize, n: usize)
     requires { ⌜ (src + e * n ≤ dst) × (dst + n ≤ length (now work)) ⌝ }
     ensures { λ _. ⌜ now (work .exit) ≡ written (now (work .entry)) dst n (rowSums (from (now (work .entry)) src) e n) ⌝ }
@@ -136,7 +136,7 @@ fn sum_blocks(work: &mut [i64], src: usize, dst: usize, outer: usize, e: usize, 
     }
 }
 
-// Sums out the last axis of (outer, e) cells.
+// Sums out the last axis of (outer, e) cells, each sum in a register.
 fn sum_runs(work: &mut [i64], src: usize, dst: usize, outer: usize, e: usize)
     requires { ⌜ (src + outer * e ≤ dst) × (dst + outer ≤ length (now work)) ⌝ }
     ensures { λ _. ⌜ now (work .exit) ≡ written (now (work .entry)) dst outer (axisSums (from (now (work .entry)) src) e 1) ⌝ }

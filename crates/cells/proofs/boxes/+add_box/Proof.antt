@@ -5,7 +5,7 @@ use mathlib.Core.Path.{_≡_, _∙_, refl}
 use native.Mathlib.Omega.{arith}
 use native.Mathlib.Nat.{zero-mul, add-zero, add-mul, one-mul}
 use lib.ListN.{length, getD}
-use Rattle.cells.specs.Rows.{written, addedTo}
+use Rattle.cells.specs.Rows.{placed, written, addedTo}
 use Rattle.cells.specs.Strides.{boxSize, boxCell}
 use Rattle.cells.proofs.Parts.{part-fits, part-added, part-reads, size-of, row-fits-box, row-size, row-added}
 use Prim.Native.Nat.{ℕ, _<_}
@@ -145,7 +145,7 @@ add-box-loop-holds : (t : ℕ) → add-box-lts.Need-loop-holds (
   add-box-below t,
   add-box.Post,
 ) (add-box-at t) add-box.Post add-box-Inv-loop add-box-μ-loop
-unfolding written
+unfolding written placed
 add-box-loop-holds t c = (search needs, refl, rw (zero-mul, add-zero), rw zero-mul)
 
 add-box-sub-add-box : (t : ℕ) → add-box-lts.Need-sub-add-box (
@@ -236,7 +236,7 @@ add-box-add-to t c =
     let q : s .args .m ≡ suc (s .args .m - 1) = omega arith in
     let b = s .pre .1 .1 in
     let x : l .loop .x < getD (s .args .extents .now) (s .args .d) 0 = omega arith in
-    omega (arith, part-fits _ _ q _ b _ x .writes)
+    omega (arith, part-fits _ _ q _ b _ x .fits)
 
 add-box-add-x : (t : ℕ) → add-box-lts.Need-add-x (
   add-line-reads.Asked,

@@ -5,7 +5,7 @@ use mathlib.Core.Path.{_≡_, _∙_, refl}
 use native.Mathlib.Omega.{arith}
 use native.Mathlib.Nat.{zero-mul, add-zero, add-mul, one-mul, mul-assoc}
 use lib.ListN.{length, getD}
-use Rattle.cells.specs.Rows.{written, axisSums}
+use Rattle.cells.specs.Rows.{placed, written, axisSums}
 use Rattle.cells.specs.Strides.{boxSize, boxCell}
 use Rattle.cells.proofs.Children.{child-more, child-size, child-fits, child-here, here-fits, here-reads, closer}
 use Prim.Native.Nat.{ℕ, _<_}
@@ -227,7 +227,7 @@ sum-box-loop-holds : (t : ℕ) → sum-box-lts.Need-loop-holds (
   sum-box-below t,
   sum-box.Post,
 ) (sum-box-at t) sum-box.Post sum-box-Inv-loop sum-box-μ-loop
-unfolding written
+unfolding written placed
 sum-box-loop-holds t c = (search needs, refl, rw (zero-mul, add-zero), rw zero-mul)
 
 sum-box-add-sum-box : (t : ℕ) → sum-box-lts.Need-add-sum-box (

@@ -5,7 +5,7 @@ use mathlib.Core.Path.{_≡_, refl}
 use native.Mathlib.Omega.{arith}
 use lib.ListN.{length, getD}
 use native.Mathlib.Nat.{zero-mul}
-use Rattle.cells.specs.Rows.{written, addedTo}
+use Rattle.cells.specs.Rows.{placed, written, addedTo}
 use Rattle.cells.specs.Strides.{boxCell}
 use Rattle.cells.proofs.Parts.{plane-more, plane-size, plane-fits, plane-reads}
 use Rattle.cells.proofs.boxes.add_plane.Statement.{statement}
@@ -48,7 +48,7 @@ shared-slice-read-u : tie.Need-shared-slice-read-u Inv-loop μ-loop
 shared-slice-read-u c = let b = c .before .before .before .before .before .before .pre in omega (arith, b .within .extents, b .within .strides)
 
 loop-holds : tie.Need-loop-holds Inv-loop μ-loop
-unfolding written
+unfolding written placed
 loop-holds c = (search needs, refl, rw zero-mul)
 
 mul-add-line : tie.Need-mul-add-line Inv-loop μ-loop
@@ -106,7 +106,7 @@ loop-again c =
 mul-result : tie.Need-mul-result Inv-loop μ-loop
 mul-result c =
     let s = c .before .before .before .before .before .before .before .before in
-    omega (arith, s .pre .writes, plane-size (s .pre))
+    omega (arith, s .pre .fits, plane-size (s .pre))
 
 same-length : tie.Need-same-length Inv-loop μ-loop
 same-length c = search needs

@@ -8,7 +8,7 @@ use mir.Facts.{toZ-ofZ}
 use mir.Val.{SFits}
 use mir.Syntax.{w64}
 use native.Mathlib.Nat.{zero-mul}
-use Rattle.cells.specs.Rows.{written, combs}
+use Rattle.cells.specs.Rows.{placed, written, combs}
 use Rattle.cells.proofs.Writing.{row-fits, one-more}
 use Rattle.cells.proofs.boxes.sum_combs.Statement.{statement}
 use Rattle.cells.proofs.boxes.sum_combs.Tie as tie
@@ -20,7 +20,7 @@ abbrev μ-loop : tie.MeasureT-loop
 μ-loop work₀ array at u n t e dst i₀ work i = n - i
 
 loop-holds : tie.Need-loop-holds Inv-loop μ-loop
-unfolding written
+unfolding written placed
 loop-holds c = (search needs, refl, refl)
 
 mul-sum-points : tie.Need-mul-sum-points Inv-loop μ-loop

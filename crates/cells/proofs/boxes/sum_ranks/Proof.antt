@@ -5,7 +5,7 @@ use mathlib.Core.Path.{_≡_, refl}
 use native.Mathlib.Omega.{arith}
 use lib.ListN.{length, getD}
 use native.Mathlib.Nat.{zero-mul}
-use Rattle.cells.specs.Rows.{written, axisSums}
+use Rattle.cells.specs.Rows.{placed, written, axisSums}
 use Rattle.cells.specs.Strides.{boxCell}
 use Rattle.cells.proofs.Children.{here-reads, here-writes, rank-size, rank-more, rank-fits}
 use Rattle.cells.proofs.boxes.sum_ranks.Statement.{statement}
@@ -30,7 +30,7 @@ shared-slice-read-t : tie.Need-shared-slice-read-t Inv-loop μ-loop
 shared-slice-read-t c = let b = c .before .before .before .before .pre .1 in omega (arith, b .before, b .below, b .within .extents, b .within .strides)
 
 loop-holds : tie.Need-loop-holds Inv-loop μ-loop
-unfolding written
+unfolding written placed
 loop-holds c = (search needs, refl, rw zero-mul)
 
 mul-sum-first : tie.Need-mul-sum-first Inv-loop μ-loop

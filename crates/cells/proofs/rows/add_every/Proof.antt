@@ -8,7 +8,7 @@ use lib.IntN.{pos}
 use mir.Facts.{toZ-ofZ}
 use mir.Val.{SFits}
 use mir.Syntax.{w32}
-use Rattle.cells.specs.Rows.{every, written, addedTo}
+use Rattle.cells.specs.Rows.{every, placed, written, addedTo}
 use Rattle.cells.proofs.Writing.{row-fits, added-more}
 use Rattle.cells.proofs.rows.add_every.Statement.{statement}
 use Rattle.cells.proofs.rows.add_every.Tie as tie
@@ -20,7 +20,7 @@ abbrev μ-loop : tie.MeasureT-loop
 μ-loop work₀ array src step dst n i₀ work i = n - i
 
 loop-holds : tie.Need-loop-holds Inv-loop μ-loop
-unfolding written
+unfolding written placed
 loop-holds c = (search needs, refl, refl)
 
 mul-x : tie.Need-mul-x Inv-loop μ-loop

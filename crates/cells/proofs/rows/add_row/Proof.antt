@@ -8,7 +8,7 @@ use lib.IntN.{pos}
 use mir.Facts.{toZ-ofZ}
 use mir.Val.{SFits}
 use mir.Syntax.{w64}
-use Rattle.cells.specs.Rows.{from, written, addedTo}
+use Rattle.cells.specs.Rows.{from, placed, written, addedTo}
 use Rattle.cells.proofs.Writing.{added-more, unread}
 use Rattle.cells.proofs.rows.add_row.Statement.{statement}
 use Rattle.cells.proofs.rows.add_row.Tie as tie
@@ -20,7 +20,7 @@ abbrev μ-loop : tie.MeasureT-loop
 μ-loop work₀ src dst n i₀ work i = n - i
 
 loop-holds : tie.Need-loop-holds Inv-loop μ-loop
-unfolding written
+unfolding written placed
 loop-holds c = search needs
 
 add-x : tie.Need-add-x Inv-loop μ-loop

@@ -5,7 +5,7 @@ use mathlib.Core.Path.{_≡_, refl}
 use native.Mathlib.Omega.{arith}
 use lib.ListN.{length}
 use lib.IntN.{pos}
-use Rattle.cells.specs.Rows.{written, zeros}
+use Rattle.cells.specs.Rows.{placed, written, zeros}
 use Rattle.cells.proofs.Writing.{one-more}
 use Rattle.cells.proofs.rows.clear.Statement.{statement}
 use Rattle.cells.proofs.rows.clear.Tie as tie
@@ -17,7 +17,7 @@ abbrev μ-loop : tie.MeasureT-loop
 μ-loop work₀ at n i₀ work i = n - i
 
 loop-holds : tie.Need-loop-holds Inv-loop μ-loop
-unfolding written
+unfolding written placed
 loop-holds c = search needs
 
 add-work : tie.Need-add-work Inv-loop μ-loop

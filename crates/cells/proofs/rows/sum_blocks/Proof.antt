@@ -4,7 +4,7 @@ use Prim.Native.Nat.{_≤_, _-_, _*_}
 use mathlib.Core.Path.{_≡_, refl}
 use native.Mathlib.Omega.{arith}
 use lib.ListN.{length}
-use Rattle.cells.specs.Rows.{from, written, axisSums}
+use Rattle.cells.specs.Rows.{from, placed, written, axisSums}
 use Rattle.cells.proofs.Writing.{row-fits, block-more, block-cell, left-of}
 use native.Mathlib.Nat.{zero-mul}
 use Rattle.cells.proofs.rows.sum_blocks.Statement.{statement}
@@ -17,7 +17,7 @@ abbrev μ-loop : tie.MeasureT-loop
 μ-loop work₀ src dst outer e inner o₀ work o = outer - o
 
 loop-holds : tie.Need-loop-holds Inv-loop μ-loop
-unfolding written
+unfolding written placed
 loop-holds c = (search needs, refl, rw zero-mul)
 
 mul-sum-block : tie.Need-mul-sum-block Inv-loop μ-loop

@@ -7,7 +7,7 @@ use lib.ListN.{length}
 use mir.Facts.{toZ-ofZ}
 use mir.Val.{SFits}
 use mir.Syntax.{w64}
-use Rattle.cells.specs.Rows.{from, written, rowSums}
+use Rattle.cells.specs.Rows.{from, placed, written, rowSums}
 use Rattle.cells.proofs.Writing.{one-more, column-cell}
 use Rattle.cells.proofs.rows.sum_columns.Statement.{statement}
 use Rattle.cells.proofs.rows.sum_columns.Tie as tie
@@ -19,7 +19,7 @@ abbrev μ-loop : tie.MeasureT-loop
 μ-loop work₀ src dst e n i₀ work i = n - i
 
 loop-holds : tie.Need-loop-holds Inv-loop μ-loop
-unfolding written
+unfolding written placed
 loop-holds c = (search needs, refl, refl)
 
 add-sum-every : tie.Need-add-sum-every Inv-loop μ-loop

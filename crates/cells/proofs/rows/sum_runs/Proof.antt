@@ -7,7 +7,7 @@ use lib.ListN.{length}
 use mir.Facts.{toZ-ofZ}
 use mir.Val.{SFits}
 use mir.Syntax.{w64}
-use Rattle.cells.specs.Rows.{from, written, axisSums}
+use Rattle.cells.specs.Rows.{from, placed, written, axisSums}
 use Rattle.cells.proofs.Writing.{row-fits, one-more, run-cell}
 use Rattle.cells.proofs.rows.sum_runs.Statement.{statement}
 use Rattle.cells.proofs.rows.sum_runs.Tie as tie
@@ -19,7 +19,7 @@ abbrev μ-loop : tie.MeasureT-loop
 μ-loop work₀ src dst outer e o₀ work o = outer - o
 
 loop-holds : tie.Need-loop-holds Inv-loop μ-loop
-unfolding written
+unfolding written placed
 loop-holds c = (search needs, refl, refl)
 
 mul-sum-every : tie.Need-mul-sum-every Inv-loop μ-loop
