@@ -20,3 +20,4 @@ pub mod Rooted
 pub mod Strided
 pub mod Expanded
 pub mod Stepped
+pub mod Called

@@ -24,7 +24,7 @@ use Rattle.boards.proofs.Boards.{label-lt, cells-fit}
 use Rattle.boards.proofs.Around.{inner}
 use Rattle.boards.proofs.Planned.{inner-from, start-inside}
 use Rattle.cells.specs.Rows.{written, axisSums}
-use Rattle.cells.specs.Strides.{boxSize, offset, boxCell, InArray, Summed}
+use Rattle.cells.specs.Strides.{boxSize, offset, boxPlace, boxCell, InArray, Summed}
 use Rattle.cells.specs.Wrapped.{wrapped}
 use Rattle.cells.proofs.Offsets.{offset-sum}
 use Rattle.cells.proofs.Writing.{written-table}
@@ -86,7 +86,7 @@ module _ (a : PlanLists) (sound : Sound a) (b : ℕ) (on : b < boards (gridOf a)
 
     -- a cell of a child
     pub formed-root : (array : List ℤ) (work : ℕ → ℤ) (j c : ℕ) → j < gridOf a .axes → c < cells (gridOf a) (j ∷ []) b → formed (gridOf a) (read array) work [] b j c ≡ axisSums (boxCell array E T (gridOf a .axes) 0 at) (extent (gridOf a) b j) (product (box (gridOf a) [] b) (gridOf a .axes - (j + 1)) (j + 1)) c
-    unfolding formed source axisSums boxCell
+    unfolding formed source axisSums boxCell boxPlace
     formed-root array work j c h l =
         ap wrapped (sum-cong (extent (gridOf a) b j) (λ m u. ap (λ i. getD array i (pos 0)) (spot m u)))
       where
@@ -157,7 +157,7 @@ module _ (a : PlanLists) (sound : Sound a) where
                 extents = omega arith;
                 strides = omega arith;
                 some = rw (box-size a sound b on r (gridOf a .axes) 0 (omega arith)) s;
-                reads = λ q u. rw (sym p) (reads-in q u);
+                places = λ q u. rw (sym p) (reads-in q u);
               });
               size = ec ∙ sym (ap (λ n. boxSize E (n - (j + 1)) (j + 1)) en ∙ box-size a sound b on r (gridOf a .axes - (j + 1)) (j + 1) (omega arith));
               writes = rw (child-cells, ed) f;

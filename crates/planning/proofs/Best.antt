@@ -14,7 +14,7 @@ use Rattle.cube.specs.Choices.{fullMask, keeps}
 use Rattle.cube.specs.Ways.{Way, Division, movedBy, addedBy}
 use Rattle.planner.specs.declared.types.Planned.{Planned}
 use Rattle.planner.specs.Plans as Plans
-use Rattle.planner.specs.Plans.{PlanLists, listsOf, slotted}
+use Rattle.planner.specs.Plans.{PlanLists, Sound, listsOf, slotted}
 use Rattle.planner.specs.Accepted.{PlanningAccepted}
 use Rattle.planner.specs.Rule.{exponents, planOf}
 use Rattle.planner.specs.Trees.{lastSummed, treeAxis}
@@ -39,6 +39,15 @@ pub record Best (l : List ℕ) (p : ℕ) (r : Planned) : Type 0 where
   pub adds : addedBy l way ≡ r .prices .added
   -- pricing gives the returned plan the same prices
   pub priced : pricing (r .plan) ≡ gives (r .prices)
+
+-- and the returned plan can be run: it passes every check, and its prices are its own
+pub record Runnable (l : List ℕ) (p : ℕ) (r : Planned) : Type 0 where
+  pub passed : planRefusal (r .plan) ≡ 0
+  pub sound : Sound (listsOf (r .plan))
+  pub some : 0 < length (listsOf (r .plan) .lengths)
+  pub same : listsOf (r .plan) .lengths ≡ l
+  pub boards : listsOf (r .plan) .p ≡ p
+  pub prices : r .prices ≡ pricesOf (listsOf (r .plan))
 
 refusal-of : (k : ℕ) (a : PlanLists) → plannedAs k a .refusal ≡ k
 refusal-of zero a = unfold plannedAs in refl
@@ -93,3 +102,33 @@ pub planned-best : (κs : Lfts 1) (a : ArgsD signature κs) (r : ResD signature 
 planned-best κs a r s h e =
     let q : r ≡ planning (now (a .0)) (a .1 .0) = h in
     subst (Best (now (a .0)) (a .1 .0)) (sym q) (answer-best (now (a .0)) (a .1 .0) (ap (λ (x : Planned). x .refusal) (sym q) ∙ e))
+
+lengths-of : (l : List ℕ) (p : ℕ) → planOf l p .lengths ≡ l
+unfolding planOf
+lengths-of l p = refl
+
+boards-of : (l : List ℕ) (p : ℕ) → planOf l p .p ≡ p
+unfolding planOf
+boards-of l p = refl
+
+pub answer-runs : (l : List ℕ) (p : ℕ) → planning l p .refusal ≡ 0 → Runnable l p (planning l p)
+unfolding planning
+answer-runs l p e =
+    let z : planningRefusal l p ≡ 0 = sym (refusal-of (planningRefusal l p) (planOf l p)) ∙ e in
+    let ok = planning-accepted l p z in
+    let q = plan-of (planningRefusal l p) (planOf l p) z in
+    let c = prices-of (planningRefusal l p) (planOf l p) z in
+    let s : listsOf (plannedAs (planningRefusal l p) (planOf l p) .plan) ≡ planOf l p = ap listsOf q ∙ lists-planned l p ok in
+    record {
+      passed = rw q (planned-accepted l p z);
+      sound = rw s (plan-sound l p (ok .lengths .some) (ok .enough));
+      some = rw (s, lengths-of l p) (ok .lengths .axes);
+      same = ap (λ (a : PlanLists). a .lengths) s ∙ lengths-of l p;
+      boards = ap (λ (a : PlanLists). a .p) s ∙ boards-of l p;
+      prices = c ∙ ap pricesOf (sym s);
+    }
+
+pub planned-runs : (κs : Lfts 1) (a : ArgsD signature κs) (r : ResD signature κs) (s : AtExit ended κs) → reads.Learnt κs a r s → r .refusal ≡ 0 → Runnable (now (a .0)) (a .1 .0) r
+planned-runs κs a r s h e =
+    let q : r ≡ planning (now (a .0)) (a .1 .0) = h in
+    subst (Runnable (now (a .0)) (a .1 .0)) (sym q) (answer-runs (now (a .0)) (a .1 .0) (ap (λ (x : Planned). x .refusal) (sym q) ∙ e))
