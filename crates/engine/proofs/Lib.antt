@@ -21,3 +21,4 @@ pub mod Strided
 pub mod Expanded
 pub mod Stepped
 pub mod Called
+pub mod Shown

@@ -1,5 +1,5 @@
 -- What the code that takes one step asks.
-use Prim.Native.Nat.{ℕ, _≤_, _<_}
+use Prim.Native.Nat.{ℕ, zero, suc, _≤_, _<_}
 use mathlib.Core.Path.{_≡_}
 use mathlib.Core.Bool.{true}
 use mathlib.Core.Option.{some}
@@ -10,6 +10,8 @@ use Rattle.planner.specs.Refusals.{planRefusal}
 use Rattle.planner.specs.declared.types.Plan.{Plan}
 use Rattle.boards.specs.Steps.{TreeStep, steps}
 use Rattle.boards.specs.Finding.{planGrid}
+use Rattle.boards.specs.Grids.{Grid}
+use Rattle.boards.specs.Answers.{Told, done, toldAt}
 use Rattle.engine.specs.Entries.{workCells}
 
 -- m is a step of the plan's list, and a work area of n cells is large enough
@@ -18,3 +20,8 @@ pub record Taking (q : Plan) (m : TreeStep) (n : ℕ) : Type 0 where
   pub at : ℕ
   pub listed : getElem? (steps (planGrid q)) at ≡ some m
   pub room : workCells (listsOf q) ≤ n
+
+-- what is told of the step that leads to a position: done where there is none
+unfoldable pub toldBefore : Grid → ℕ → Told
+toldBefore g zero = done
+toldBefore g (suc at) = toldAt g (steps g) at
