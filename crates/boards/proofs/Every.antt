@@ -9,6 +9,7 @@ use native.Mathlib.Omega.{arith}
 use lib.ListN.{getElem?}
 use Rattle.cube.proofs.Sets.{Down, down-up}
 use Rattle.cube.specs.Boxes.{pick}
+use Rattle.cube.specs.Tree.{next}
 use Rattle.boards.specs.Grids.{Grid, boards, withLabel, lead, cells}
 use Rattle.boards.specs.Steps.{TreeStep, each, expand, finish, steps, sends, transfer, transfers, visit, walk}
 
@@ -46,7 +47,7 @@ module _ (P : TreeStep → Type 0) where
   every-each (suc n) f h = every-append (each n f) (f n) (every-each n f (λ b l. h b (omega arith))) (h n (omega arith))
 
   -- a transfer is known by its choice, its lead, and the sender's label on the axis just summed
-  module _ (g : Grid) (on-expand : (Y : List ℕ) → Down Y (g .axes) → P (expand Y)) (on-transfer : (Y : List ℕ) (j b l : ℕ) → Down (j ∷ Y) (g .axes) → b < boards g → lead g (j ∷ Y) b ≡ true → suc l < g .parts j → P (transfer (j ∷ Y) (withLabel g b j (suc l)) b (cells g (j ∷ Y) (withLabel g b j (suc l))))) (on-finish : (Y : List ℕ) → Down Y (g .axes) → P (finish Y)) where
+  module _ (g : Grid) (on-expand : (Y : List ℕ) → Down Y (g .axes) → P (expand Y)) (on-transfer : (Y : List ℕ) (j b l : ℕ) → Down (j ∷ Y) (g .axes) → b < boards g → lead g (j ∷ Y) b ≡ true → suc l < g .parts j → P (transfer (j ∷ Y) (withLabel g b j (suc l)) b (cells g (j ∷ Y) (withLabel g b j (suc l))))) (on-finish : (Y : List ℕ) → Down Y (g .axes) → 0 < next Y → P (finish Y)) where
     every-transfers : (Y : List ℕ) (j : ℕ) → Down (j ∷ Y) (g .axes) → Every (transfers g (j ∷ Y) (boards g))
     unfolding transfers sends
     every-transfers Y j d = every-each (boards g) _ (λ b h. one b h (lead g (j ∷ Y) b) refl)
@@ -55,15 +56,15 @@ module _ (P : TreeStep → Type 0) where
         one b h true e = every-each (g .parts j - 1) _ (λ l r. (on-transfer Y j b l d h e (omega arith), tt))
         one b h false e = tt
 
-    every-visit : (Y : List ℕ) (m : ℕ) (inner : List TreeStep) → Down Y (g .axes) → Every inner → Every (visit Y m inner)
-    every-visit Y zero inner d h = every-append inner (finish Y ∷ []) h (on-finish Y d, tt)
-    every-visit Y (suc m) inner d h = (on-expand Y d, every-append inner (finish Y ∷ []) h (on-finish Y d, tt))
+    every-visit : (Y : List ℕ) (m : ℕ) (inner : List TreeStep) → Down Y (g .axes) → 0 < next Y → Every inner → Every (visit Y m inner)
+    every-visit Y zero inner d n h = every-append inner (finish Y ∷ []) h (on-finish Y d n, tt)
+    every-visit Y (suc m) inner d n h = (on-expand Y d, every-append inner (finish Y ∷ []) h (on-finish Y d n, tt))
 
     every-walk : (m d : ℕ) (Y : List ℕ) → d + m ≡ g .axes → Down Y d → Every (walk g m d Y)
     unfolding walk
     every-walk zero d Y e h = tt
     every-walk (suc m) d Y e h =
-        every-append (walk g m (d + 1) Y) _ (every-walk m (d + 1) Y (omega arith) (down-up Y d (d + 1) (omega arith) h)) (every-append (transfers g (d ∷ Y) (boards g)) _ (every-transfers Y d (omega arith, h)) (every-visit (d ∷ Y) m _ (omega arith, h) (every-walk m (d + 1) (d ∷ Y) (omega arith) (omega arith, h))))
+        every-append (walk g m (d + 1) Y) _ (every-walk m (d + 1) Y (omega arith) (down-up Y d (d + 1) (omega arith) h)) (every-append (transfers g (d ∷ Y) (boards g)) _ (every-transfers Y d (omega arith, h)) (every-visit (d ∷ Y) m _ (omega arith, h) (omega arith) (every-walk m (d + 1) (d ∷ Y) (omega arith) (omega arith, h))))
 
     pub every-step : Every (steps g)
     unfolding steps

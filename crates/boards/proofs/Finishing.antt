@@ -208,4 +208,4 @@ Shape n (finish Y) = Down Y n
 
 pub finish-down : (g : Grid) (before rest : List TreeStep) (Y : List ℕ) → steps g ≡ before ++ (finish Y ∷ rest) → Down Y (g .axes)
 finish-down g before rest Y e =
-    every-at (Shape (g .axes)) before (finish Y) rest (rw e at (every-step (Shape (g .axes)) g (λ Y h. tt) (λ Y j b l d h t r. tt) (λ Y h. h)))
+    every-at (Shape (g .axes)) before (finish Y) rest (rw e at (every-step (Shape (g .axes)) g (λ Y h. tt) (λ Y j b l d h t r. tt) (λ Y h n. h)))

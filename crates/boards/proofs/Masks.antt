@@ -85,7 +85,7 @@ module _ (g : Grid) (ok : Lawful g) where
 
   times-any : (mask : ℕ) → mask < 2 ^ g .axes → timesFinished g mask (steps g) ≡ any (summedBy g mask) (g .axes) 0
   times-any mask h =
-      times-finishes mask h (steps g) (every-step Shape g (λ Y h. tt) (λ Y j b l d h t r. tt) (λ Y h. h)) ∙ finished-once g (summedBy g mask)
+      times-finishes mask h (steps g) (every-step Shape g (λ Y h. tt) (λ Y j b l d h t r. tt) (λ Y h n. h)) ∙ finished-once g (summedBy g mask)
 
   pub root-mask : maskOf g [] ≡ fullMask (g .axes)
   root-mask = mask-powers [] ∙ powers-cong (λ a. not (has [] (g .rank a))) (λ a. true) (g .axes) all ∙ powers-all (g .axes)

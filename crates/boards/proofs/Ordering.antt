@@ -275,7 +275,7 @@ Shape n (finish Y) = Unit {0}
 -- each expansion is of axes below n, the last first
 expand-down : (g : Grid) (before rest : List TreeStep) (Y : List ℕ) → steps g ≡ before ++ (expand Y ∷ rest) → Down Y (g .axes)
 expand-down g before rest Y e =
-    every-at (Shape (g .axes)) before (expand Y) rest (rw e at (every-step (Shape (g .axes)) g (λ Y h. h) (λ Y j b l d h t r. tt) (λ Y h. tt)))
+    every-at (Shape (g .axes)) before (expand Y) rest (rw e at (every-step (Shape (g .axes)) g (λ Y h. h) (λ Y j b l d h t r. tt) (λ Y h n. tt)))
 
 -- what t looks for of Y comes after the transfers of Y
 sends-first : (g : Grid) (Y : List ℕ) (t : TreeStep → Bool) → About t Y → ((Z : List ℕ) (s r n : ℕ) → t (transfer Z s r n) ≡ false) → ((Z : List ℕ) → t (expand Z) ≡ true → Y ≡ Z) → Down Y (g .axes) → Ordered (sendsIt Y) t (steps g)

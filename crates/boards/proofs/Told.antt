@@ -6,7 +6,7 @@ use mathlib.Core.Option.{Option, none, some}
 use mathlib.Core.List.{List, [], _∷_}
 use native.Mathlib.Omega.{arith}
 use lib.ListN.{length, getElem?}
-use Rattle.cube.specs.Tree.{lastOf}
+use Rattle.cube.specs.Tree.{next}
 use Rattle.cube.proofs.Sets.{Down}
 use Rattle.boards.specs.Grids.{Grid, Lawful, maskOf, summed, boards, withLabel, lead, cells}
 use Rattle.boards.specs.Steps.{TreeStep, expand, transfer, finish, steps}
@@ -41,7 +41,7 @@ module _ (g : Grid) where
   shapes =
       every-step Shape g (λ Y h. h)
       (λ Y j b l d h t r. record { Y = Y; j = j; l = l; set = refl; down = d; receiver = h; lead-of = t; label-lt = r; sender = refl; count = refl })
-      (λ Y h. h)
+      (λ Y h n. h)
 
   module _ (ok : Lawful g) (at mask : ℕ) where
     back : (Z : List ℕ) → Down Z (g .axes) → maskOf g Z ≡ mask → summed g mask ≡ Z
@@ -114,3 +114,12 @@ module _ (g : Grid) where
 -- a transfer of the list
 pub known-step : (g : Grid) (at : ℕ) (Z : List ℕ) (s r n : ℕ) → getElem? (steps g) at ≡ some (transfer Z s r n) → Known g Z s r n
 known-step g at Z s r n e = every-get (Shape g) (steps g) at (transfer Z s r n) (shapes g) e
+
+-- the root is never finished
+abbrev NotRoot : TreeStep → Type 0
+NotRoot (expand Y) = Unit {0}
+NotRoot (transfer Y s r n) = Unit {0}
+NotRoot (finish Y) = 0 < next Y
+
+pub finish-some : (g : Grid) (at : ℕ) (Z : List ℕ) → getElem? (steps g) at ≡ some (finish Z) → 0 < next Z
+finish-some g at Z e = every-get NotRoot (steps g) at (finish Z) (every-step NotRoot g (λ Y h. tt) (λ Y j b l d h t r. tt) (λ Y h n. n)) e

@@ -39,7 +39,7 @@ module _ (g : Grid) where
   Sent (finish Y) = Unit {0}
 
   pub sent-steps : Every Sent (steps g)
-  sent-steps = every-step Sent g (λ Y h. tt) (λ Y j b l d h t r. h) (λ Y h. tt)
+  sent-steps = every-step Sent g (λ Y h. tt) (λ Y j b l d h t r. h) (λ Y h n. tt)
 
   module _ (ok : Lawful g) (some : 0 < g .axes) where
     region-pos : 0 < regionSize g 0

@@ -78,3 +78,38 @@ pub fn view_refusal(plan: Plan, work: &[i64], position: u64, board: u32) -> u8
     }
     0
 }
+
+// A board's cells of the choice that the position finishes, as a part of the work area itself: empty on a refusal, and for a board that is no lead.
+pub fn view(plan: Plan, work: &[i64], position: u64, board: u32) -> &[i64]
+    ensures { λ r. ⌜ now r ≡ viewing plan (now (work .entry)) position board ⌝ }
+{
+    let refusal = view_refusal(plan, work, position, board);
+    if refusal != 0 {
+        return &work[..0];
+    }
+    match step_before(plan, position) {
+        Step::Finish(choice) => {
+            let b = board as u64;
+            if is_lead(plan, choice, b) {
+                let next = next_of(plan, choice);
+                let start = region_at(plan, b, next - 1) as usize;
+                let count = cells_of(plan, choice, b) as usize;
+                let end = start + count;
+                return &work[start..end];
+            }
+            return &work[..0];
+        }
+        Step::Expand(_) => {
+            return &work[..0];
+        }
+        Step::Transfer(_) => {
+            return &work[..0];
+        }
+        Step::Done => {
+            return &work[..0];
+        }
+        Step::Refused(_) => {
+            return &work[..0];
+        }
+    }
+}
