@@ -32,10 +32,10 @@ use Rattle.engine.proofs.Runs.{Final, start-le}
 -- ---- the board that holds a position
 
 -- v lies in portion l of axis d
-record Holds (g : Grid) (d v l n : ℕ) : Type 0 where
-  below : l < n
-  from : g .start d l ≤ v
-  to : v < g .start d (suc l)
+pub record Holds (g : Grid) (d v l n : ℕ) : Type 0 where
+  pub below : l < n
+  pub from : g .start d l ≤ v
+  pub to : v < g .start d (suc l)
 
 module _ (g : Grid) (ok : Lawful g) where
   portion-from : (d v : ℕ) → d < g .axes → (n : ℕ) → v < g .start d n → Holds g d v (portionFrom g d v n) n
@@ -46,7 +46,7 @@ module _ (g : Grid) (ok : Lawful g) where
       (λ t. let k = leb-true (g .start d n) v t in rw t (record { below = omega arith; from = k; to = h }))
       (λ t. let k = portion-from d v r n (leb-false (g .start d n) v t) in rw t (record { below = omega (arith, k .below); from = k .from; to = k .to }))
 
-  portion-holds : (d v : ℕ) → d < g .axes → v < g .len d → Holds g d v (portionOf g d v) (g .parts d)
+  pub portion-holds : (d v : ℕ) → d < g .axes → v < g .len d → Holds g d v (portionOf g d v) (g .parts d)
   unfolding portionOf
   portion-holds d v r h = portion-from d v r (g .parts d) (rw (ok .last d r) h)
 
@@ -74,7 +74,7 @@ module _ (g : Grid) (ok : Lawful g) where
     owner-global d r = let p = portion-holds d (z d) r (w d r) .from in rw (owner-label d r) (omega arith)
 
     module _ (Y : List ℕ) (flat : (d : ℕ) → d < g .axes → has Y d ≡ true → z d ≡ 0) where
-      owner-leads : (Z : List ℕ) → Down Z (g .axes) → ((d : ℕ) → d < g .axes → has Z d ≡ true → z d ≡ 0) → lead g Z (owner g z) ≡ true
+      pub owner-leads : (Z : List ℕ) → Down Z (g .axes) → ((d : ℕ) → d < g .axes → has Z d ≡ true → z d ≡ 0) → lead g Z (owner g z) ≡ true
       unfolding lead
       owner-leads [] q f = refl
       owner-leads (j ∷ Z) q f =
@@ -87,7 +87,7 @@ module _ (g : Grid) (ok : Lawful g) where
           more : (j d : ℕ) (Z : List ℕ) → has Z d ≡ true → has (j ∷ Z) d ≡ true
           more j d Z t = unfold has in (by (eqb d j) (λ s. rw s) (λ s. rw s t))
 
-      owner-within : Within (g .axes) (box g Y (owner g z)) (local g z)
+      pub owner-within : Within (g .axes) (box g Y (owner g z)) (local g z)
       unfolding box kept local
       owner-within d r =
           let p = portion-holds d (z d) r (w d r) in
@@ -148,24 +148,24 @@ module _ (a : PlanLists) (sound : Sound a) (Y : List ℕ) where
   mask = maskOf g Y
 
   -- a cell's position is below the length of its axis, and 0 on a summed one
-  kept-order : (d : ℕ) → d < g .axes → keptLength (a .lengths) mask (g .order d) ≡ kept Y (g .len) d
+  pub kept-order : (d : ℕ) → d < g .axes → keptLength (a .lengths) mask (g .order d) ≡ kept Y (g .len) d
   unfolding keptLength kept
   kept-order d r = by (has Y d) (λ t. rw (keeps-order a sound Y d r, t)) (λ t. rw (keeps-order a sound Y d r, t) (order-length a sound d r))
 
-  gathered-lt : (c : ℕ) → c < Choices.cells (a .lengths) mask → (d : ℕ) → d < g .axes → gatheredPosition (a .lengths) g mask c d < kept Y (g .len) d
+  pub gathered-lt : (c : ℕ) → c < Choices.cells (a .lengths) mask → (d : ℕ) → d < g .axes → gatheredPosition (a .lengths) g mask c d < kept Y (g .len) d
   unfolding Choices.cells gatheredPosition cellPosition
   gathered-lt c h d r =
       let l = order-below a sound d r in
       rw (kept-order d r) at (position-lt (keptLength (a .lengths) mask) (length (a .lengths)) 0 c (g .order d) h (omega arith) (omega arith))
 
   module _ (c : ℕ) (h : c < Choices.cells (a .lengths) mask) where
-    gathered-within : Within (g .axes) (g .len) (gatheredPosition (a .lengths) g mask c)
+    pub gathered-within : Within (g .axes) (g .len) (gatheredPosition (a .lengths) g mask c)
     gathered-within d r = let s = gathered-lt c h d r in let p = len-pos g ok d r in go s p
       where
         go : gatheredPosition (a .lengths) g mask c d < kept Y (g .len) d → 0 < g .len d → gatheredPosition (a .lengths) g mask c d < g .len d
         go s p = by (has Y d) (λ t. let u = (rw (kept-has (g .len) Y d t) at s) in omega arith) (λ t. (rw (kept-out (g .len) Y d t) at s))
 
-    gathered-flat : (d : ℕ) → d < g .axes → has Y d ≡ true → gatheredPosition (a .lengths) g mask c d ≡ 0
+    pub gathered-flat : (d : ℕ) → d < g .axes → has Y d ≡ true → gatheredPosition (a .lengths) g mask c d ≡ 0
     gathered-flat d r t = let s = (rw (kept-has (g .len) Y d t) at (gathered-lt c h d r)) in omega arith
 
     -- positions by place and back are the positions by axis

@@ -22,3 +22,4 @@ pub mod Expanded
 pub mod Stepped
 pub mod Called
 pub mod Shown
+pub mod Copied

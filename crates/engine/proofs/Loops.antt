@@ -82,17 +82,22 @@ pub stride-inner : (g : Grid) (d : ℕ) → stride g d ≡ inner (axisLength g) 
 unfolding stride
 stride-inner g d = sym (inner-from (axisLength g) (g .axes) (g .order d))
 
-pub point-formula : (a : PlanLists) → Sound a → (z : ℕ → ℕ) → pointAt (gridOf a) z ≡ sumN ((gridOf a) .axes) (λ d. z d * stride (gridOf a) d)
-point-formula a sound z = numbered ∙ sym (sumN-cong ((gridOf a) .axes) place ∙ ordered)
+-- places by axis number are sums over the axes in plan order, for a box of any lengths
+pub place-formula : (a : PlanLists) → Sound a → (e z : ℕ → ℕ) → place e (λ x. z ((gridOf a) .rank x)) ((gridOf a) .axes) 0 ≡ sumN ((gridOf a) .axes) (λ d. z d * product e ((gridOf a) .axes - ((gridOf a) .order d + 1)) ((gridOf a) .order d + 1))
+place-formula a sound e z = numbered ∙ sym (sumN-cong ((gridOf a) .axes) one ∙ ordered)
   where
     term : ℕ → ℕ
-    term x = z ((gridOf a) .rank x) * inner (axisLength (gridOf a)) ((gridOf a) .axes) 0 x
+    term x = z ((gridOf a) .rank x) * inner e ((gridOf a) .axes) 0 x
 
-    numbered : pointAt (gridOf a) z ≡ sumN ((gridOf a) .axes) term
-    numbered = unfold pointAt in place-sum (axisLength (gridOf a)) (λ x. z ((gridOf a) .rank x)) ((gridOf a) .axes) 0 ∙ sumN-cong ((gridOf a) .axes) (λ x h. ap term (zero-add x))
+    numbered : place e (λ x. z ((gridOf a) .rank x)) ((gridOf a) .axes) 0 ≡ sumN ((gridOf a) .axes) term
+    numbered = place-sum e (λ x. z ((gridOf a) .rank x)) ((gridOf a) .axes) 0 ∙ sumN-cong ((gridOf a) .axes) (λ x h. ap term (zero-add x))
 
-    place : (d : ℕ) → d < (gridOf a) .axes → z d * stride (gridOf a) d ≡ term ((gridOf a) .order d)
-    place d h = ap₂ _*_ (ap z (sym (grid-lawful a sound .rank-order d h))) (stride-inner (gridOf a) d)
+    one : (d : ℕ) → d < (gridOf a) .axes → z d * product e ((gridOf a) .axes - ((gridOf a) .order d + 1)) ((gridOf a) .order d + 1) ≡ term ((gridOf a) .order d)
+    one d h = ap₂ _*_ (ap z (sym (grid-lawful a sound .rank-order d h))) (sym (inner-from e ((gridOf a) .axes) ((gridOf a) .order d)))
 
     ordered : sumN ((gridOf a) .axes) (λ d. term ((gridOf a) .order d)) ≡ sumN ((gridOf a) .axes) term
     ordered = unfold gridOf in sum-order a sound _
+
+pub point-formula : (a : PlanLists) → Sound a → (z : ℕ → ℕ) → pointAt (gridOf a) z ≡ sumN ((gridOf a) .axes) (λ d. z d * stride (gridOf a) d)
+unfolding pointAt stride
+point-formula a sound z = place-formula a sound (axisLength (gridOf a)) z

@@ -38,7 +38,7 @@ use Rattle.engine.proofs.Moved.{region-room}
 use Rattle.engine.proofs.Formed.{before, behind, child-count}
 
 -- positions depend on the extents of the box alone
-position-cong : (e f : ℕ → ℕ) (m d c i : ℕ) → ((k : ℕ) → d ≤ k → k < d + m → e k ≡ f k) → position e m d c i ≡ position f m d c i
+pub position-cong : (e f : ℕ → ℕ) (m d c i : ℕ) → ((k : ℕ) → d ≤ k → k < d + m → e k ≡ f k) → position e m d c i ≡ position f m d c i
 unfolding position
 position-cong e f zero d c i h = refl
 position-cong e f (suc m) d c i h =

@@ -3,4 +3,5 @@ pub mod Gather
 pub mod Entries
 pub mod Taking
 pub mod Expansions
+pub mod Copies
 pub mod Computing
