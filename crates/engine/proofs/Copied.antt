@@ -70,8 +70,8 @@ module _ (g : Grid) (ok : Lawful g) where
       by (ltb l k)
       (λ t. absurd (apart d v l k r p q (ltb-true l k t)))
       (λ t. by (ltb k l)
-        (λ s. absurd (apart d v k l r q p (ltb-true k l s)))
-        (λ s. let x = ltb-false l k t in let y = ltb-false k l s in omega arith))
+      (λ s. absurd (apart d v k l r q p (ltb-true k l s)))
+      (λ s. let x = ltb-false l k t in let y = ltb-false k l s in omega arith))
 
 module _ (a : PlanLists) (sound : Sound a) (Y : List ℕ) where
   abbrev g : Grid
@@ -244,8 +244,8 @@ module _ (a : PlanLists) (sound : Sound a) (Y : List ℕ) where
       some-cells : 0 < cells g Y b
       unfolding cells
       some-cells = product-pos (box g Y b) (g .axes) 0 (λ i l u. by (has Y i)
-        (λ s. (unfold box in rw (kept-has (extent g b) Y i s) (omega arith)))
-        (λ s. (unfold box in rw (kept-out (extent g b) Y i s) (let v = ok .rising i (label g b i) (omega arith) (label-lt g ok b i on (omega arith)) in unfold extent in omega arith))))
+          (λ s. (unfold box in rw (kept-has (extent g b) Y i s) (omega arith)))
+          (λ s. (unfold box in rw (kept-out (extent g b) Y i s) (let v = ok .rising i (label g b i) (omega arith) (label-lt g ok b i on (omega arith)) in unfold extent in omega arith))))
 
       pub lead-in : (n : ℕ) → n ≡ Choices.cells (a .lengths) mask → g .axes ≤ length E → g .axes ≤ length T → InArray n E T (g .axes) 0 at
       lead-in n e le lt = record { extents = omega arith; strides = omega arith; some = rw box-size some-cells; places = λ q h. rw e (spot-lt q (rw box-size at h)) }

@@ -5,9 +5,10 @@ use Rattle.engine.specs.Gather
 use Rattle.engine.specs.Entries
 use Rattle.engine.specs.Taking
 use Rattle.engine.specs.Expansions
+use Rattle.engine.specs.Copies
 use Rattle.cells.specs.Computing as cells
 use Rattle.boards.specs.Computing as boards
 
 unfoldable pub computing : ℕ
-unfolding Memory.pointAt Memory.source Memory.formed Memory.forms Memory.after Memory.stepped Memory.ran Gather.portionFrom Gather.portionOf Gather.owner Gather.local Gather.gatheredPosition Gather.gathered Gather.viewed Entries.badArray Entries.workCells Entries.smallArea Entries.noFinish Entries.wrongResult Entries.stepChecks Entries.taken Entries.stepOr Entries.stepRefusal Entries.stepping Entries.viewChecks Entries.viewRefusal Entries.viewOr Entries.viewing Entries.gatherChecks Entries.gatherRefusal Entries.gatherOr Entries.gathering Taking.toldBefore Expansions.oneChild Expansions.passed Expansions.partly Expansions.stride cells.computing boards.computing
+unfolding Memory.pointAt Memory.source Memory.formed Memory.forms Memory.after Memory.stepped Memory.ran Gather.portionFrom Gather.portionOf Gather.owner Gather.local Gather.gatheredPosition Gather.gathered Gather.viewed Entries.badArray Entries.workCells Entries.smallArea Entries.noFinish Entries.wrongResult Entries.stepChecks Entries.taken Entries.stepOr Entries.stepRefusal Entries.stepping Entries.viewChecks Entries.viewRefusal Entries.viewOr Entries.viewing Entries.gatherChecks Entries.gatherRefusal Entries.gatherOr Entries.gathering Taking.toldBefore Expansions.oneChild Expansions.passed Expansions.partly Expansions.stride Copies.cellStride cells.computing boards.computing
 computing = 0
