@@ -1,4 +1,3 @@
-pub mod boxes;
-pub mod copies;
+// Cells that stand side by side: sums modulo 2^64, and rows.
 pub mod rows;
 pub mod wrapping;

@@ -27,6 +27,7 @@ fn signed(n: u64) -> i64
     !m
 }
 
+// The sum modulo 2^64, as a signed number.
 pub fn wrapping_add(a: i64, b: i64) -> i64
     ensures { λ r. ⌜ r ≡ wrapped (a +ℤ b) ⌝ }
 {

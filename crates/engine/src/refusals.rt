@@ -5,7 +5,7 @@ ghost use Rattle.cube.specs.Choices.{points};
 ghost use Rattle.cube.specs.Limits.{pointLimit};
 ghost use Rattle.planner.specs.Plans.{listsOf};
 ghost use Rattle.planner.specs.Refusals.{planRefusal};
-ghost use Rattle.engine.specs.Entries.{workCells, stepRefusal};
+ghost use Rattle.memory.specs.Entries.{workCells, stepRefusal};
 use checks::plan_refusal;
 use cube::types::Choice;
 use grid::counts::steps_of;

@@ -1,11 +1,11 @@
 // The entry that takes one step.
 ghost use mathlib.Core.Path.{_≡_};
 ghost use Rattle.boards.specs.Answers.{told};
-ghost use Rattle.engine.specs.Entries.{outcome, stepping};
-use crate::expansions::expand_all;
+ghost use Rattle.memory.specs.Entries.{outcome, stepping};
 use crate::refusals::step_refusal;
-use crate::transfers::move_cells;
 use boards::types::Step;
+use moves::expansions::expand_all;
+use moves::transfers::move_cells;
 use planner::types::Plan;
 use rack::steps::step_at;
 

@@ -37,7 +37,7 @@ pub fn extent_of(plan: Plan, d: usize, l: u64) -> u64
 }
 
 // The same, and 1 where a choice sums the axis out.
-fn kept_extent(plan: Plan, choice: Choice, d: usize, l: u64) -> u64
+pub fn kept_extent(plan: Plan, choice: Choice, d: usize, l: u64) -> u64
     requires { ⌜ (planRefusal plan ≡ 0) × (d < plan .axes) × (l < planGrid plan .parts d) ⌝ }
     ensures { λ r. ⌜ (r ≡ kept (summedIn plan (choice .mask)) (λ e. planGrid plan .start e (suc l) - planGrid plan .start e l) d) × (r ≤ lengthLimit) ⌝ }
 {

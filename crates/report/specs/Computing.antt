@@ -3,7 +3,7 @@ use Prim.Native.Nat.{ℕ}
 use Rattle.report.specs.Text
 use Rattle.report.specs.Printed
 use Rattle.tape.specs.Computing as tape
-use Rattle.engine.specs.Computing as engine
+use Rattle.memory.specs.Computing as engine
 
 unfoldable pub computing : ℕ
 unfolding Text.text Text.digits Text.decimal Text.signed Printed.tooLarge Printed.programChecks Printed.programRefusal Printed.fields Printed.numbers Printed.signeds Printed.planLine Printed.dimLines Printed.groupLine Printed.lineOf Printed.groupLines Printed.groups Printed.endLine Printed.report Printed.reportOr Printed.printed tape.computing engine.computing

@@ -14,8 +14,8 @@ use Rattle.planner.specs.Rule.{planOf}
 use Rattle.planner.specs.Refusals.{planningChecks}
 use Rattle.boards.specs.Grids.{Grid, gridOf, maskOf}
 use Rattle.boards.specs.Steps.{TreeStep, expand, transfer, finish, steps}
-use Rattle.engine.specs.Entries.{badArray, workCells}
-use Rattle.engine.specs.Memory.{read}
+use Rattle.memory.specs.Entries.{badArray, workCells}
+use Rattle.memory.specs.Memory.{read}
 use Rattle.tape.specs.Tapes.{Campaign, campaign}
 use Rattle.tape.specs.Reading.{tooLong, isNone, orEmpty}
 use Rattle.report.specs.Text.{text, decimal, signed}

@@ -3,7 +3,7 @@ use Rattle.planner.proofs.Accepting.{passed-accepted}
 use Prim.Native.Nat.{ℕ, _*_}
 use mathlib.Core.Path.{_∙_, ap₂}
 use Rattle.boards.proofs.Refusing.{boards-shifted}
-use Rattle.engine.proofs.Refusing.{area-plan, area-small}
+use Rattle.memory.proofs.Refusing.{area-plan, area-small}
 use borrow.Author.Needs.{needs}
 use Rattle.engine.proofs.refusals.area_of.Statement.{statement}
 use Rattle.engine.proofs.refusals.area_of.Tie as tie

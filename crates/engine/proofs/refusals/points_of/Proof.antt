@@ -1,6 +1,6 @@
 use Rattle.planner.proofs.Accepting.{passed-accepted}
 use mathlib.Core.Path.{_∙_}
-use Rattle.engine.proofs.Refusing.{countable, points-plan}
+use Rattle.memory.proofs.Refusing.{countable, points-plan}
 use borrow.Author.Needs.{needs}
 use Rattle.engine.proofs.refusals.points_of.Statement.{statement}
 use Rattle.engine.proofs.refusals.points_of.Tie as tie

@@ -1,5 +1,5 @@
 use mathlib.Core.Path.{sym, _∙_}
-use Rattle.engine.proofs.Refusing.{step-due, step-points, step-area, step-past, step-passed}
+use Rattle.memory.proofs.Refusing.{step-due, step-points, step-area, step-past, step-passed}
 use borrow.Author.Needs.{needs}
 use Rattle.engine.proofs.refusals.step_refusal.Statement.{statement}
 use Rattle.engine.proofs.refusals.step_refusal.Tie as tie

@@ -7,7 +7,7 @@ use Rattle.boards.specs.Steps.{expand, transfer, finish}
 use Rattle.boards.specs.Answers.{told}
 use Rattle.boards.proofs.Tallied.{lawful}
 use Rattle.boards.proofs.Told.{expand-told, transfer-told, finish-told, done-told, never-refused}
-use Rattle.engine.proofs.Stepped.{passed, steps-few, refused-out, taken-out, done-out, taking, transfer-free, finish-free}
+use Rattle.memory.proofs.Stepped.{passed, steps-few, refused-out, taken-out, done-out, taking, transfer-free, finish-free}
 use borrow.Author.Needs.{needs}
 use Rattle.engine.proofs.stepping.step.Statement.{statement}
 use Rattle.engine.proofs.stepping.step.Tie as tie

@@ -6,8 +6,8 @@ use mathlib.Core.Bool.{not}
 use Rattle.boards.specs.Finding.{planGrid}
 use Rattle.boards.specs.Answers.{told}
 use Rattle.boards.proofs.Tallied.{lawful}
-use Rattle.engine.specs.Entries.{isNone}
-use Rattle.engine.proofs.Shown.{finished-is, other-none}
+use Rattle.memory.specs.Entries.{isNone}
+use Rattle.memory.proofs.Shown.{finished-is, other-none}
 use borrow.Author.Needs.{needs}
 use Rattle.engine.proofs.viewing.is_finished.Statement.{statement}
 use Rattle.engine.proofs.viewing.is_finished.Tie as tie

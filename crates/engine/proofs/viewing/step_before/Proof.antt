@@ -1,5 +1,5 @@
 use Rattle.boards.specs.Finding.{planGrid}
-use Rattle.engine.proofs.Shown.{before-none, before-some}
+use Rattle.memory.proofs.Shown.{before-none, before-some}
 use borrow.Author.Needs.{needs}
 use Rattle.engine.proofs.viewing.step_before.Statement.{statement}
 use Rattle.engine.proofs.viewing.step_before.Tie as tie

@@ -9,8 +9,8 @@ use Rattle.boards.specs.Finding.{planGrid, summedIn}
 use Rattle.boards.specs.Answers.{told}
 use Rattle.boards.proofs.Counting.{board-count}
 use Rattle.boards.proofs.Tallied.{lawful, boards-few}
-use Rattle.engine.proofs.Refusing.{area-boards}
-use Rattle.engine.proofs.Shown.{finished-is, other-none, showing, shown-refused, shown-none, shown-other, shown-lead, finished-some, cells-room}
+use Rattle.memory.proofs.Refusing.{area-boards}
+use Rattle.memory.proofs.Shown.{finished-is, other-none, showing, shown-refused, shown-none, shown-other, shown-lead, finished-some, cells-room}
 use borrow.Author.Needs.{needs}
 use Rattle.engine.proofs.viewing.view.Statement.{statement}
 use Rattle.engine.proofs.viewing.view.Tie as tie

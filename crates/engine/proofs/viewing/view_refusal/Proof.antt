@@ -3,7 +3,7 @@ use Rattle.planner.proofs.Accepting.{passed-accepted}
 use borrow.Author.Tests.{not-true, not-false}
 use mathlib.Core.Path.{sym, _∙_}
 use Rattle.boards.proofs.Refusing.{boards-shifted}
-use Rattle.engine.proofs.Shown.{view-due, view-area, view-past, view-unfinished, view-outside, view-passed}
+use Rattle.memory.proofs.Shown.{view-due, view-area, view-past, view-unfinished, view-outside, view-passed}
 use borrow.Author.Needs.{needs}
 use Rattle.engine.proofs.viewing.view_refusal.Statement.{statement}
 use Rattle.engine.proofs.viewing.view_refusal.Tie as tie

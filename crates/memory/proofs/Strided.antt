@@ -1,0 +1,166 @@
+-- Strides, extents and the first point of a board's box, as the code counts them.
+use Prim.Native.Nat.{ℕ, zero, suc, _+_, _-_, _*_, _≤_, _<_}
+use mathlib.Core.Path.{_≡_, sym, _∙_, refl, ap, ap₂}
+use mathlib.Core.Bool.{true, false, not}
+use mathlib.Core.List.{List, [], _∷_}
+use native.Mathlib.Nat.{zero-add, mul-le-mul, le-refl}
+use native.Mathlib.Numerals.{add-one}
+use native.Mathlib.Omega.{arith}
+use lib.ListN.{length, getD, take}
+use lib.Seq.{getD-take}
+use Rattle.cube.specs.Limits.{lengthLimit, pointLimit}
+use Rattle.cube.specs.Boxes.{sumN, product}
+use Rattle.cube.specs.Choices.{points, keeps}
+use Rattle.cube.specs.Tree.{next, has, kept}
+use Rattle.cube.proofs.Sums.{by}
+use Rattle.cube.proofs.Sets.{kept-has, kept-out}
+use Rattle.cube.proofs.Naturals.{sumN-cong}
+use Rattle.cube.proofs.Products.{product-last, product-le}
+use Rattle.planner.specs.Plans.{listsOf}
+use Rattle.planner.specs.declared.types.Plan.{Plan}
+use Rattle.planner.specs.Accepted.{Accepted}
+use Rattle.boards.specs.Grids.{Grid, gridOf, boards, boardWith, label, extent, box}
+use Rattle.boards.specs.Finding.{planGrid, summedIn, Labels}
+use Rattle.boards.proofs.Tallied.{lawful, axes-same}
+use Rattle.boards.proofs.Planned.{summed-has, order-slot, part-le, label-with, own-board, own-fit}
+use Rattle.memory.specs.Expansions.{axisLength, stride}
+use Rattle.memory.specs.Copies.{keptAlong, cellStride}
+use Rattle.memory.proofs.Rooted.{axis-length, points-in, RootBox}
+
+-- a stride so far: the choice's cells along the axes from `first` up to axis a
+pub record StrideTo (q : Plan) (mask first count a : ℕ) : Type 0 where
+  pub counted : count ≡ product (keptAlong (planGrid q) (summedIn q mask)) (a - first) first
+  pub fits : count ≤ pointLimit
+
+-- the first cell so far: what the axes up to place d add
+pub record PointTo (q : Plan) (mask : ℕ) (labels : List ℕ) (at d : ℕ) : Type 0 where
+  pub counted : at ≡ sumN d (λ i. planGrid q .start i (getD labels i 0) * cellStride (planGrid q) (summedIn q mask) i)
+  pub fits : at ≤ 1099511627776 * d
+
+pub term-fits : (s t : ℕ) → s ≤ lengthLimit → t ≤ pointLimit → s * t ≤ 1099511627776
+term-fits s t a b = let m = mul-le-mul {n₁ = s} {m₁ = t} {n₂ = 65535} {m₂ = 16777216} a b in omega arith
+
+module _ (q : Plan) (ok : Accepted q) where
+  length-slot : (a : ℕ) → a < q .axes → getD (q .lengths) a 0 ≡ axisLength (planGrid q) a
+  length-slot a h =
+      let e = ok .axes in
+      let t : getD (listsOf q .lengths) a 0 ≡ getD (q .lengths) a 0 = (unfold listsOf in getD-take (q .axes) (q .lengths) a 0 h) in
+      sym (axis-length (listsOf q) (ok .sound) a (omega arith) ∙ t)
+
+  length-some : (a : ℕ) → a < planGrid q .axes → 0 < axisLength (planGrid q) a
+  length-some a h =
+      let x = axes-same q ok in
+      let e = ok .axes in
+      let s = axis-length (listsOf q) (ok .sound) a (omega arith) in
+      let p = ok .lengths .some a (omega arith) in
+      omega arith
+
+  -- the axis at a place is one of the axes
+  pub order-in : (d : ℕ) → d < q .axes → getD (q .order) d 0 < q .axes
+  order-in d h =
+      let x = axes-same q ok in
+      let o = lawful q ok .order-lt d (omega arith) in
+      let e = order-slot q ok d h in
+      omega arith
+
+  module _ (mask : ℕ) where
+    -- ---- a length of the choice, by axis number
+
+    number-has : (a : ℕ) → a < q .axes → has (summedIn q mask) (planGrid q .rank a) ≡ not (keeps mask a)
+    number-has a h =
+        let x = axes-same q ok in
+        summed-has (planGrid q) mask (planGrid q .rank a) (lawful q ok .rank-lt a (omega arith)) ∙ ap (λ a. not (keeps mask a)) (lawful q ok .order-rank a (omega arith))
+
+    pub along-kept : (a : ℕ) → a < q .axes → keeps mask a ≡ true → getD (q .lengths) a 0 ≡ keptAlong (planGrid q) (summedIn q mask) a
+    along-kept a h t = length-slot a h ∙ sym (kept-out (planGrid q .len) (summedIn q mask) (planGrid q .rank a) (number-has a h ∙ ap not t))
+
+    pub along-summed : (a : ℕ) → a < q .axes → keeps mask a ≡ false → 1 ≡ keptAlong (planGrid q) (summedIn q mask) a
+    along-summed a h t = sym (kept-has (planGrid q .len) (summedIn q mask) (planGrid q .rank a) (number-has a h ∙ ap not t))
+
+    along-le : (a : ℕ) → a < q .axes → keptAlong (planGrid q) (summedIn q mask) a ≤ axisLength (planGrid q) a
+    along-le a h =
+        by (keeps mask a)
+        (λ t. let k = along-kept a h t in let l = length-slot a h in omega arith)
+        (λ t. let k = along-summed a h t in let s = length-some a (let x = axes-same q ok in omega arith) in omega arith)
+
+    part-small : (m first : ℕ) → first + m ≤ q .axes → product (keptAlong (planGrid q) (summedIn q mask)) m first ≤ pointLimit
+    part-small m first h =
+        let x = axes-same q ok in
+        let k = product-le (keptAlong (planGrid q) (summedIn q mask)) (axisLength (planGrid q)) m first (λ i l r. along-le i (omega arith)) in
+        let a = part-le (axisLength (planGrid q)) (planGrid q .axes) m first length-some (omega arith) in
+        let b = points-in (listsOf q) (ok .sound) in
+        let c = ok .lengths .small in
+        omega arith
+
+    -- ---- a stride
+
+    pub stride-begin : (first : ℕ) → StrideTo q mask first 1 first
+    stride-begin first = let z : first - first ≡ 0 = omega arith in record { counted = rw z (unfold product in refl); fits = omega arith }
+
+    pub stride-turn : (first count a n : ℕ) → n ≡ keptAlong (planGrid q) (summedIn q mask) a → first ≤ a → a < q .axes → StrideTo q mask first count a → StrideTo q mask first (count * n) (a + 1)
+    stride-turn first count a n en l h s =
+        let z : a + 1 - first ≡ a - first + 1 = omega arith in
+        let y : first + (a - first) ≡ a = omega arith in
+        let e : ℕ → ℕ = keptAlong (planGrid q) (summedIn q mask) in
+        let k : count * n ≡ product e (a + 1 - first) first =
+        ap₂ _*_ (s .counted) en ∙ sym (ap (λ m. product e m first) z ∙ product-last e (a - first) first ∙ ap (λ x. product e (a - first) first * e x) y) in
+        record { counted = k; fits = rw k (part-small (a + 1 - first) first (omega arith)) }
+
+    pub stride-fits : (first count a n : ℕ) → n ≡ keptAlong (planGrid q) (summedIn q mask) a → first ≤ a → a < q .axes → StrideTo q mask first count a → count * n ≤ pointLimit
+    stride-fits first count a n en l h s = stride-turn first count a n en l h s .fits
+
+    pub stride-end : (d count a : ℕ) → d < q .axes → getD (q .order) d 0 + 1 ≤ a → a ≤ q .axes → q .axes ≤ a → StrideTo q mask (getD (q .order) d 0 + 1) count a → (count ≡ cellStride (planGrid q) (summedIn q mask) d) × (count ≤ pointLimit)
+    unfolding cellStride
+    stride-end d count a h u l k s =
+        let x = axes-same q ok in
+        let z : a ≡ planGrid q .axes = omega arith in
+        (s .counted ∙ ap₂ (λ n f. product (keptAlong (planGrid q) (summedIn q mask)) (n - (f + 1)) (f + 1)) z (order-slot q ok d h), s .fits)
+
+    -- ---- the first cell
+
+    pub point-begin : (labels : List ℕ) → PointTo q mask labels 0 0
+    point-begin labels = record { counted = unfold sumN in refl; fits = omega arith }
+
+    pub point-turn : (labels : List ℕ) (at d s t : ℕ) → PointTo q mask labels at d → s ≡ planGrid q .start d (getD labels d 0) → s ≤ lengthLimit → t ≡ cellStride (planGrid q) (summedIn q mask) d → t ≤ pointLimit → PointTo q mask labels (at + s * t) (d + 1)
+    point-turn labels at d s t p es fs et ft =
+        let m = term-fits s t fs ft in
+        record {
+          counted = ap₂ _+_ (p .counted) (ap₂ _*_ es et) ∙ sym (ap (λ n. sumN n (λ i. planGrid q .start i (getD labels i 0) * cellStride (planGrid q) (summedIn q mask) i)) (add-one d) ∙ (unfold sumN in refl));
+          fits = let f = p .fits in omega arith;
+        }
+
+    -- ---- the box of a board
+
+    pub extent-with : (labels : List ℕ) → Labels q labels → (d : ℕ) → d < q .axes → kept (summedIn q mask) (λ e. planGrid q .start e (suc (getD labels d 0)) - planGrid q .start e (getD labels d 0)) d ≡ box (planGrid q) (summedIn q mask) (boardWith (planGrid q) (λ i. getD labels i 0)) d
+    unfolding box kept extent
+    extent-with labels fits d h =
+        let x = axes-same q ok in
+        let l = label-with (planGrid q) (lawful q ok) (λ i. getD labels i 0) (λ i u. fits i (omega arith)) d (omega arith) in
+        rw l refl
+
+  -- where a choice sums out nothing, its cells are the points of the array
+  root-stride : (d : ℕ) → cellStride (planGrid q) [] d ≡ stride (planGrid q) d
+  unfolding cellStride stride kept has
+  root-stride d = refl
+
+  root-extent : (b d : ℕ) → box (planGrid q) [] b d ≡ extent (planGrid q) b d
+  unfolding box kept has
+  root-extent b d = refl
+
+  pub root-box : (b : ℕ) (on : b < boards (planGrid q)) (Y labels E T : List ℕ) (at : ℕ) → Y ≡ [] → ((d : ℕ) → d < q .axes → getD labels d 0 ≡ label (planGrid q) b d)
+      → ((d : ℕ) → d < q .axes → getD E d 0 ≡ box (planGrid q) Y (boardWith (planGrid q) (λ i. getD labels i 0)) d)
+      → ((d : ℕ) → d < q .axes → getD T d 0 ≡ cellStride (planGrid q) Y d)
+      → at ≡ sumN (q .axes) (λ d. planGrid q .start d (getD labels d 0) * cellStride (planGrid q) Y d)
+      → RootBox (listsOf q) (ok .sound) b on E T at
+  root-box b on Y labels E T at e own es ts p =
+      let x = axes-same q ok in
+      record {
+        extents = λ d h. es d (omega arith) ∙ ap (λ Y. box (planGrid q) Y (boardWith (planGrid q) (λ i. getD labels i 0)) d) e ∙ root-extent _ d ∙ ap (λ b. extent (planGrid q) b d) (own-board q ok b on labels own);
+        strides = λ d h. ts d (omega arith) ∙ ap (λ Y. cellStride (planGrid q) Y d) e ∙ root-stride d;
+        first = p ∙ ap (λ n. sumN n (λ d. planGrid q .start d (getD labels d 0) * cellStride (planGrid q) Y d)) (sym x) ∙ sumN-cong (planGrid q .axes) (λ d h. ap₂ (λ l t. planGrid q .start d l * t) (own d (omega arith)) (ap (λ Y. cellStride (planGrid q) Y d) e ∙ root-stride d));
+      }
+
+-- a choice with no earlier axis is the root
+pub next-empty : (Y : List ℕ) → next Y ≡ 0 → Y ≡ []
+next-empty [] e = refl
+next-empty (j ∷ Y) e = absurd (omega arith)

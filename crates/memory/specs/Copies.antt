@@ -1,0 +1,47 @@
+-- A gathered choice by strides, and gathering board by board, as code does it: the result on the way.
+use Prim.Native.Nat.{ℕ, _+_, _-_, _≤_, _<_}
+use mathlib.Core.Path.{_≡_}
+use mathlib.Core.List.{List}
+use lib.Dec.{eqb, ltb}
+use lib.ListN.{length, getD}
+use lib.IntN.{ℤ, pos}
+use Rattle.cube.specs.Boxes.{pick, table, product}
+use Rattle.cube.specs.Choices as Choices
+use Rattle.cube.specs.Tree.{next, kept}
+use Rattle.planner.specs.Plans.{listsOf}
+use Rattle.planner.specs.Refusals.{planRefusal}
+use Rattle.planner.specs.declared.types.Plan.{Plan}
+use Rattle.boards.specs.Grids.{Grid, maskOf, boards, cellAt}
+use Rattle.boards.specs.Finding.{planGrid, summedIn}
+use Rattle.memory.specs.Gather.{owner, local, gatheredPosition}
+use Rattle.memory.specs.Entries.{workCells}
+
+-- the lengths of the choice that sums out Y, by axis number: 1 on a summed axis
+abbrev pub keptAlong : Grid → List ℕ → ℕ → ℕ
+keptAlong g Y a = kept Y (g .len) (g .rank a)
+
+-- how far apart in the result neighbours on the axis at place d stand: the choice's cells along the axes after it
+unfoldable pub cellStride : Grid → List ℕ → ℕ → ℕ
+cellStride g Y d = product (keptAlong g Y) (g .axes - (g .order d + 1)) (g .order d + 1)
+
+-- what cell c of the gathered choice is, and the board that has it
+unfoldable pub dueAt : List ℕ → Grid → List ℕ → (ℕ → ℤ) → (ℕ → ℤ)
+dueAt ds g Y work c = let z = gatheredPosition ds g (maskOf g Y) c in work (cellAt g Y (owner g z) (local g z))
+
+unfoldable pub ownerOf : List ℕ → Grid → List ℕ → (ℕ → ℕ)
+ownerOf ds g Y c = owner g (gatheredPosition ds g (maskOf g Y) c)
+
+-- the cells of one board copied, all else kept
+unfoldable pub oneBoard : List ℕ → Grid → List ℕ → ℕ → (ℕ → ℤ) → List ℤ → List ℤ
+oneBoard ds g Y b work result = table (length result) (λ c. pick (eqb (ownerOf ds g Y c) b) (dueAt ds g Y work c) (getD result c (pos 0)))
+
+-- the boards before b copied, all else kept
+unfoldable pub boardsTo : List ℕ → Grid → List ℕ → ℕ → (ℕ → ℤ) → List ℤ → List ℤ
+boardsTo ds g Y b work result = table (length result) (λ c. pick (ltb (ownerOf ds g Y c) b) (dueAt ds g Y work c) (getD result c (pos 0)))
+
+-- what copying asks: a choice that is not the root, a work area that is large enough, and a result of the choice's cells
+pub record Copying (q : Plan) (mask work result : ℕ) : Type 0 where
+  pub passed : planRefusal q ≡ 0
+  pub some : 0 < next (summedIn q mask)
+  pub room : workCells (listsOf q) ≤ work
+  pub cells : result ≡ Choices.cells (listsOf q .lengths) (maskOf (planGrid q) (summedIn q mask))

@@ -1,0 +1,72 @@
+// The cells of a child on one board.
+ghost use mathlib.Core.Path.{_≡_};
+ghost use mathlib.Core.List.{[]};
+ghost use Prim.Native.Nat.{_<_};
+ghost use lib.ListN.{length};
+ghost use Rattle.cube.specs.Boxes.{table};
+ghost use Rattle.cube.specs.Choices.{points};
+ghost use Rattle.cube.specs.Tree.{next};
+ghost use Rattle.planner.specs.Plans.{listsOf};
+ghost use Rattle.boards.specs.Finding.{planGrid, summedIn};
+ghost use Rattle.memory.specs.Memory.{read};
+ghost use Rattle.memory.specs.Expansions.{oneChild, Forms};
+use crate::points::extents_of;
+use crate::points::first_cell;
+use crate::points::strides_of;
+use boxes::sums::sum_box;
+use cells::rows::sum_axis;
+use cube::types::Choice;
+use grid::places::cells_between;
+use grid::places::extent_of;
+use grid::places::labels_of;
+use grid::places::next_of;
+use grid::places::region_at;
+use planner::types::Plan;
+
+// Of a choice whose cells stand in the work area: they are (outer, extent, inner) around the axis at place j, which is summed out.
+pub fn form_cells(plan: Plan, choice: Choice, board: u64, j: usize, work: &mut [i64])
+    requires { ⌜ (Forms plan (choice .mask) board j (length (now work))) × (0 < next (summedIn plan (choice .mask))) ⌝ }
+    ensures { λ _. ⌜ now (work .exit) ≡ table (length (now (work .entry))) (oneChild (planGrid plan) (read []) (summedIn plan (choice .mask)) board j (read (now (work .entry)))) ⌝ }
+{
+    let labels = labels_of(plan, board);
+    let outer = cells_between(plan, choice, labels, 0, j);
+    let extent = extent_of(plan, j, labels[j]);
+    let inner = cells_between(plan, choice, labels, j + 1, plan.axes as usize);
+    let next = next_of(plan, choice);
+    let src = region_at(plan, board, next - 1);
+    let dst = region_at(plan, board, j);
+    sum_axis(
+        work,
+        src as usize,
+        dst as usize,
+        outer as usize,
+        extent as usize,
+        inner as usize,
+    );
+}
+
+// Of the root, whose cells are the points of the board's box of the array.
+pub fn form_points(plan: Plan, root: Choice, board: u64, j: usize, array: &[i32], work: &mut [i64])
+    requires { ⌜ (Forms plan (root .mask) board j (length (now work))) × (next (summedIn plan (root .mask)) ≡ 0) × (points (listsOf plan .lengths) ≡ length (now array)) ⌝ }
+    ensures { λ _. ⌜ now (work .exit) ≡ table (length (now (work .entry))) (oneChild (planGrid plan) (read (now (array .entry))) (summedIn plan (root .mask)) board j (read (now (work .entry)))) ⌝ }
+{
+    let labels = labels_of(plan, board);
+    let extents = extents_of(plan, root, labels);
+    let strides = strides_of(plan, root);
+    let first = first_cell(plan, root, labels);
+    let n = plan.axes as usize;
+    let inner = cells_between(plan, root, labels, j + 1, n);
+    let dst = region_at(plan, board, j);
+    sum_box(
+        work,
+        array,
+        &extents,
+        &strides,
+        n,
+        j,
+        inner as usize,
+        0,
+        first as usize,
+        dst as usize,
+    );
+}
