@@ -36,10 +36,10 @@ use Rattle.memory.proofs.Refusing.{step-passed}
 use Rattle.memory.proofs.Lists.{ran-length}
 use Rattle.claims.proofs.Called.{does}
 use Rattle.memory.proofs.Positions.{take-next, gathered-at, viewed-at}
-use Rattle.engine.proofs.copying.gather as gather
-use Rattle.engine.proofs.copying.gather.Reads as gather-reads
-use Rattle.engine.proofs.viewing.view as view
-use Rattle.engine.proofs.viewing.view.Reads as view-reads
+use Rattle.views.proofs.copying.gather as gather
+use Rattle.views.proofs.copying.gather.Reads as gather-reads
+use Rattle.views.proofs.viewing.view as view
+use Rattle.views.proofs.viewing.view.Reads as view-reads
 use Rattle.engine.proofs.stepping.step.{signature, ended}
 use Rattle.engine.proofs.stepping.step.Reads as reads
 

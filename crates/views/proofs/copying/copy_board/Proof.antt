@@ -5,8 +5,8 @@ use Rattle.boards.specs.Finding.{summedIn}
 use Rattle.memory.proofs.Copied.{copy-other}
 use Rattle.memory.proofs.Gathers.{down}
 use borrow.Author.Needs.{needs}
-use Rattle.engine.proofs.copying.copy_board.Statement.{statement}
-use Rattle.engine.proofs.copying.copy_board.Tie as tie
+use Rattle.views.proofs.copying.copy_board.Statement.{statement}
+use Rattle.views.proofs.copying.copy_board.Tie as tie
 
 -- src/copying.rt:58:8
 is-lead-requires : tie.Need-is-lead-requires

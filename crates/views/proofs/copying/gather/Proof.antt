@@ -10,8 +10,8 @@ use Rattle.boards.proofs.Tallied.{lawful}
 use Rattle.memory.proofs.Shown.{finished-is, finished-some, other-none}
 use Rattle.memory.proofs.Gathers.{collecting, kept-refused, kept-none, gathered-some}
 use borrow.Author.Needs.{needs}
-use Rattle.engine.proofs.copying.gather.Statement.{statement}
-use Rattle.engine.proofs.copying.gather.Tie as tie
+use Rattle.views.proofs.copying.gather.Statement.{statement}
+use Rattle.views.proofs.copying.gather.Tie as tie
 
 -- src/copying.rt:117:9
 gather-refusal-requires : tie.Need-gather-refusal-requires

@@ -9,8 +9,8 @@ use Rattle.boards.proofs.Tallied.{axes-same, boards-few}
 use Rattle.boards.proofs.Planned.{own-fit}
 use Rattle.memory.proofs.Gathers.{lead-boxed, lead-copied}
 use borrow.Author.Needs.{needs}
-use Rattle.engine.proofs.copying.copy_lead.Statement.{statement}
-use Rattle.engine.proofs.copying.copy_lead.Tie as tie
+use Rattle.views.proofs.copying.copy_lead.Statement.{statement}
+use Rattle.views.proofs.copying.copy_lead.Tie as tie
 
 -- src/copying.rt:27:9
 labels-of-requires : tie.Need-labels-of-requires

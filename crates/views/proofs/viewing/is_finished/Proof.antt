@@ -9,8 +9,8 @@ use Rattle.boards.proofs.Tallied.{lawful}
 use Rattle.memory.specs.Entries.{isNone}
 use Rattle.memory.proofs.Shown.{finished-is, other-none}
 use borrow.Author.Needs.{needs}
-use Rattle.engine.proofs.viewing.is_finished.Statement.{statement}
-use Rattle.engine.proofs.viewing.is_finished.Tie as tie
+use Rattle.views.proofs.viewing.is_finished.Statement.{statement}
+use Rattle.views.proofs.viewing.is_finished.Tie as tie
 
 -- src/viewing.rt:39:11
 step-before-requires : tie.Need-step-before-requires

@@ -12,8 +12,8 @@ use Rattle.boards.proofs.Tallied.{lawful, boards-few}
 use Rattle.memory.proofs.Refusing.{area-boards}
 use Rattle.memory.proofs.Shown.{finished-is, other-none, showing, shown-refused, shown-none, shown-other, shown-lead, finished-some, cells-room}
 use borrow.Author.Needs.{needs}
-use Rattle.engine.proofs.viewing.view.Statement.{statement}
-use Rattle.engine.proofs.viewing.view.Tie as tie
+use Rattle.views.proofs.viewing.view.Statement.{statement}
+use Rattle.views.proofs.viewing.view.Tie as tie
 
 -- src/viewing.rt:86:9
 view-refusal-requires : tie.Need-view-refusal-requires

@@ -15,8 +15,8 @@ use Rattle.memory.specs.Memory.{read}
 use Rattle.memory.specs.Copies.{oneBoard, boardsTo, Copying}
 use Rattle.memory.proofs.Copied.{copy-begin, copy-length, copy-turn, copy-end}
 use Rattle.memory.proofs.Gathers.{copying-on}
-use Rattle.engine.proofs.copying.copy_all.Statement.{statement}
-use Rattle.engine.proofs.copying.copy_all.Tie as tie
+use Rattle.views.proofs.copying.copy_all.Statement.{statement}
+use Rattle.views.proofs.copying.copy_all.Tie as tie
 
 abbrev Inv-loop : tie.InvT-loop
 Inv-loop plan choice work result₀ boards b₀ result b = (Accepted plan) × (boards ≡ Grids.boards (planGrid plan)) × (b ≤ boards) × (result ≡ boardsTo (listsOf plan .lengths) (planGrid plan) (summedIn plan (choice .mask)) b (read work) result₀)

@@ -1,8 +1,8 @@
 use Rattle.boards.specs.Finding.{planGrid}
 use Rattle.memory.proofs.Shown.{before-none, before-some}
 use borrow.Author.Needs.{needs}
-use Rattle.engine.proofs.viewing.step_before.Statement.{statement}
-use Rattle.engine.proofs.viewing.step_before.Tie as tie
+use Rattle.views.proofs.viewing.step_before.Statement.{statement}
+use Rattle.views.proofs.viewing.step_before.Tie as tie
 
 -- src/viewing.rt:29:9
 returns : tie.Need-returns

@@ -5,8 +5,8 @@ use mathlib.Core.Path.{sym, _∙_}
 use Rattle.boards.proofs.Refusing.{boards-shifted}
 use Rattle.memory.proofs.Shown.{view-due, view-area, view-past, view-unfinished, view-outside, view-passed}
 use borrow.Author.Needs.{needs}
-use Rattle.engine.proofs.viewing.view_refusal.Statement.{statement}
-use Rattle.engine.proofs.viewing.view_refusal.Tie as tie
+use Rattle.views.proofs.viewing.view_refusal.Statement.{statement}
+use Rattle.views.proofs.viewing.view_refusal.Tie as tie
 
 -- src/viewing.rt:62:9
 plan-refusal-requires : tie.Need-plan-refusal-requires

@@ -9,8 +9,8 @@ use Rattle.memory.proofs.Refusing.{countable}
 use Rattle.memory.proofs.Shown.{finished-is, other-none}
 use Rattle.memory.proofs.Gathers.{gather-due, gather-area, gather-past, gather-unfinished, gather-wrong, gather-passed, cells-told}
 use borrow.Author.Needs.{needs}
-use Rattle.engine.proofs.copying.gather_refusal.Statement.{statement}
-use Rattle.engine.proofs.copying.gather_refusal.Tie as tie
+use Rattle.views.proofs.copying.gather_refusal.Statement.{statement}
+use Rattle.views.proofs.copying.gather_refusal.Tie as tie
 
 -- src/copying.rt:80:9
 plan-refusal-requires : tie.Need-plan-refusal-requires
