@@ -5,5 +5,4 @@ pub mod Writing
 pub mod Offsets
 pub mod Parts
 pub mod Putting
-pub mod Children
-pub mod Merging
+pub mod Summing

@@ -6,5 +6,5 @@ use Rattle.cells.specs.Strides
 use Rattle.cube.specs.Computing as cube
 
 unfoldable pub computing : ℕ
-unfolding Wrapped.residue Wrapped.wrapped Rows.from Rows.every Rows.placed Rows.written Rows.zeros Rows.addedTo Rows.axisSums Rows.rowSums Rows.combs Strides.boxSize Strides.offset Strides.boxPlace Strides.boxCell cube.computing
+unfolding Wrapped.residue Wrapped.wrapped Rows.from Rows.every Rows.placed Rows.written Rows.zeros Rows.addedTo Rows.axisSums Rows.rowSums Rows.combs Strides.boxSize Strides.offset Strides.boxPlace Strides.boxCell Strides.boxSums cube.computing
 computing = 0

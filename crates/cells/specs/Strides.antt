@@ -5,7 +5,10 @@ use Prim.Native.Nat.{ℕ, zero, suc, _+_, _-_, _*_, _/_, _%_, _≤_, _<_}
 use mathlib.Core.List.{List}
 use lib.ListN.{length, getD}
 use lib.IntN.{ℤ, pos}
-use Rattle.cube.specs.Boxes.{product}
+use Rattle.cube.specs.Boxes.{sumZ, product}
+use Rattle.cube.specs.Limits.{pointLimit}
+use Rattle.cells.specs.Wrapped.{wrapped}
+use Rattle.cells.specs.Rows.{every}
 
 -- the number of cells
 unfoldable pub boxSize : List ℕ → ℕ → ℕ → ℕ
@@ -23,6 +26,10 @@ boxPlace e t m d at q = at + offset e t m d q
 unfoldable pub boxCell : List ℤ → List ℕ → List ℕ → ℕ → ℕ → ℕ → (ℕ → ℤ)
 boxCell array e t m d at q = getD array (boxPlace e t m d at q) (pos 0)
 
+-- sum q of a box of sums: its n points stand step apart, the first of them at the box's cell q
+unfoldable pub boxSums : List ℤ → List ℕ → List ℕ → ℕ → ℕ → ℕ → ℕ → ℕ → (ℕ → ℤ)
+boxSums array e t m d at n step q = wrapped (sumZ n (every array (boxPlace e t m d at q) step))
+
 -- the box lies within an array of a points, and has cells
 pub record InArray (a : ℕ) (e t : List ℕ) (m d at : ℕ) : Type 0 where
   pub extents : d + m ≤ length e
@@ -35,10 +42,31 @@ pub record Boxed (w a : ℕ) (e t : List ℕ) (m d at beside : ℕ) : Type 0 whe
   pub within : InArray a e t m d at
   pub fits : beside + boxSize e m d ≤ w
 
--- n axes, of which axis j is summed out, seen from axis d on; the axes after j have inner cells
-pub record Summed (w a : ℕ) (e t : List ℕ) (n j inner d at dst : ℕ) : Type 0 where
-  pub before : d ≤ j
-  pub below : j < n
-  pub within : InArray a e t (n - d) d at
-  pub size : inner ≡ boxSize e (n - (j + 1)) (j + 1)
-  pub writes : dst + boxSize e (j - d) d * inner ≤ w
+-- a box of sums of n points each lies within an array of a points, and a slice of w cells has as many cells from a place on
+pub record Sums (w a : ℕ) (e t : List ℕ) (m d at n step dst : ℕ) : Type 0 where
+  pub extents : d + m ≤ length e
+  pub strides : d + m ≤ length t
+  pub some : 0 < boxSize e m d
+  pub any : 0 < n
+  pub places : (q : ℕ) → q < boxSize e m d → at + offset e t m d q + n * step < a + step
+  pub writes : dst + boxSize e m d ≤ w
+
+-- two boxes with the same cells at the same places
+pub record Same (e t : List ℕ) (m d : ℕ) (e′ t′ : List ℕ) (m′ d′ : ℕ) : Type 0 where
+  pub size-same : boxSize e m d ≡ boxSize e′ m′ d′
+  pub offset-same : (q : ℕ) → q < boxSize e m d → offset e t m d q ≡ offset e′ t′ m′ d′ q
+
+-- what merging asks of a box: it has cells, and so few points that no product passes 64 bits
+pub record Mergeable (e t : List ℕ) (n : ℕ) : Type 0 where
+  pub extents : n ≤ length e
+  pub strides : n ≤ length t
+  pub some : 0 < boxSize e n 0
+  pub most : boxSize e n 0 ≤ pointLimit
+  pub near : (i : ℕ) → i < n → getD t i 0 ≤ pointLimit
+
+-- what it leaves: the same box, as that of the axes from d up to n
+pub record Merged (e t e′ t′ : List ℕ) (n d : ℕ) : Type 0 where
+  pub axes : d ≤ n
+  pub extents : length e′ ≡ length e
+  pub strides : length t′ ≡ length t
+  pub same : Same e t n 0 e′ t′ (n - d) d

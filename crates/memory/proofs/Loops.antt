@@ -23,11 +23,11 @@ use Rattle.memory.specs.Expansions.{axisLength, stride}
 -- ---- a child's cell c and the parent's cells that it sums
 
 module _ (g : Grid) (Y : List ℕ) (b j : ℕ) (out : has Y j ≡ false) (r : j < g .axes) where
-  same-axis : (i : ℕ) → (i ≡ j → ⊥) → box g (j ∷ Y) b i ≡ box g Y b i
+  pub same-axis : (i : ℕ) → (i ≡ j → ⊥) → box g (j ∷ Y) b i ≡ box g Y b i
   unfolding box
   same-axis i ne = kept-other (extent g b) j i Y ne
 
-  one-cell : box g (j ∷ Y) b j ≡ 1
+  pub one-cell : box g (j ∷ Y) b j ≡ 1
   unfolding box
   one-cell = kept-has (extent g b) (j ∷ Y) j (has-head j Y)
 

@@ -1,9 +1,9 @@
--- The root's cells on a board: a box of the array, read through strides.
-use Prim.Native.Nat.{ℕ, zero, suc, _+_, _-_, _*_, _/_, _%_, _≤_, _<_}
+-- The root's children on a board: boxes of sums over the array, read through strides.
+use Prim.Native.Nat.{ℕ, zero, suc, _+_, _-_, _*_, _≤_, _<_}
 use mathlib.Core.Path.{_≡_, sym, _∙_, refl, ap, ap₂}
 use mathlib.Core.Bool.{Bool, true, false, _&&_}
 use mathlib.Core.List.{List, [], _∷_}
-use native.Mathlib.Nat.{zero-add, sub-zero, add-mul, le-refl}
+use native.Mathlib.Nat.{zero-add, add-mul, one-mul}
 use native.Mathlib.Omega.{arith}
 use borrow.Author.Tests.{eqb-true, eqb-false, leb-true, ltb-true}
 use lib.Dec.{eqb, leb, ltb}
@@ -12,30 +12,29 @@ use lib.IntN.{ℤ, pos}
 use Rattle.cube.specs.Boxes.{pick, sumN, sumZ, put, product, place, position, table, Within}
 use Rattle.cube.specs.Choices.{points, lengthOf}
 use Rattle.cube.specs.Tree.{has, kept}
-use Rattle.cube.proofs.Sums.{by, sum-cong}
+use Rattle.cube.proofs.Sums.{by, sum-cong, put-same, put-other}
 use Rattle.cube.proofs.Naturals.{both, sumN-cong, sumN-add}
-use Rattle.cube.proofs.Boxing.{product-cong, place-lt, position-place, position-lt, place-position}
+use Rattle.cube.proofs.Boxing.{product-cong, place-lt, position-lt}
 use Rattle.cube.proofs.Products.{product-pos}
+use Rattle.cube.proofs.Sets.{kept-has, kept-out}
 use Rattle.planner.specs.Plans.{PlanLists, Sound, lengthAt, find}
 use Rattle.boards.specs.Grids.{Grid, Lawful, gridOf, boards, label, extent, box, cells, global, share, index}
 use Rattle.planner.proofs.Orders.{order-rank}
 use Rattle.boards.proofs.Lawful.{grid-lawful}
 use Rattle.boards.proofs.Boards.{label-lt, cells-fit}
-use Rattle.boards.proofs.Around.{inner}
-use Rattle.boards.proofs.Planned.{inner-from, start-inside}
-use Rattle.cells.specs.Rows.{written, axisSums}
-use Rattle.cells.specs.Strides.{boxSize, offset, boxPlace, boxCell, InArray, Summed}
+use Rattle.boards.proofs.Planned.{start-inside}
+use Rattle.cells.specs.Rows.{every, written}
+use Rattle.cells.specs.Strides.{boxSize, offset, boxPlace, boxSums, Sums}
 use Rattle.cells.specs.Wrapped.{wrapped}
 use Rattle.cells.proofs.Offsets.{offset-sum}
 use Rattle.cells.proofs.Writing.{written-table}
 use Rattle.memory.specs.Memory.{read, pointAt, source, formed}
 use Rattle.memory.specs.Expansions.{oneChild, axisLength, stride}
-use Rattle.memory.proofs.Loops.{parent-formula, point-formula}
+use Rattle.memory.proofs.Loops.{one-cell, point-formula}
 use Rattle.memory.proofs.Gathering.{table-same}
 use Rattle.memory.proofs.Ranges.{child-range}
 use Rattle.memory.proofs.Runs.{parent-within}
 use Rattle.memory.proofs.Moved.{region-room}
-use Rattle.memory.proofs.Formed.{before, behind, child-count}
 
 -- positions depend on the extents of the box alone
 pub position-cong : (e f : ℕ → ℕ) (m d c i : ℕ) → ((k : ℕ) → d ≤ k → k < d + m → e k ≡ f k) → position e m d c i ≡ position f m d c i
@@ -45,64 +44,26 @@ position-cong e f (suc m) d c i h =
     let p : product e m (d + 1) ≡ product f m (d + 1) = product-cong m (d + 1) (λ k l r. h k (omega arith) (omega arith)) in
     by (eqb i d)
     (λ t. rw (t, p) refl)
-    (λ t. rw (t, p) (position-cong e f m (d + 1) (c % product f m (d + 1)) i (λ k l r. h k (omega arith) (omega arith))))
+    (λ t. rw (t, p) (position-cong e f m (d + 1) _ i (λ k l r. h k (omega arith) (omega arith))))
 
-module _ (a : PlanLists) (sound : Sound a) (b : ℕ) (on : b < boards (gridOf a)) where
-  -- extents and strides in slots, and where the board's first point stands
-  pub record RootBox (E T : List ℕ) (at : ℕ) : Type 0 where
-    pub extents : (d : ℕ) → d < gridOf a .axes → getD E d 0 ≡ extent (gridOf a) b d
-    pub strides : (d : ℕ) → d < gridOf a .axes → getD T d 0 ≡ stride (gridOf a) d
-    pub first : at ≡ sumN (gridOf a .axes) (λ d. gridOf a .start d (label (gridOf a) b d) * stride (gridOf a) d)
-
-  law : Lawful (gridOf a)
-  law = grid-lawful a sound
-
-  pub whole : (d : ℕ) → box (gridOf a) [] b d ≡ extent (gridOf a) b d
-  unfolding box kept has
-  whole d = refl
-
-  module _ {E T : List ℕ} {at : ℕ} (r : RootBox E T at) where
-    same-box : (k : ℕ) → 0 ≤ k → k < 0 + gridOf a .axes → getD E k 0 ≡ box (gridOf a) [] b k
-    same-box k l u = r .extents k (omega arith) ∙ sym (whole k)
-
-    pub box-size : (m d : ℕ) → d + m ≤ gridOf a .axes → boxSize E m d ≡ product (box (gridOf a) [] b) m d
-    unfolding boxSize
-    box-size m d h = product-cong m d (λ k l u. same-box k (omega arith) (omega arith))
-
-    -- the cell at the positions x is the point at the same positions of the board's portions
-    pub cell-point : (x : ℕ → ℕ) → Within (gridOf a .axes) (box (gridOf a) [] b) x → at + offset E T (gridOf a .axes) 0 (place (box (gridOf a) [] b) x (gridOf a .axes) 0) ≡ pointAt (gridOf a) (global (gridOf a) b x)
-    cell-point x w =
-        let n = gridOf a .axes in
-        let q = place (box (gridOf a) [] b) x (gridOf a .axes) 0 in
-        let one : (i : ℕ) → i < gridOf a .axes → position (λ k. getD E k 0) (gridOf a .axes) 0 q (0 + i) * getD T (0 + i) 0 ≡ x i * stride (gridOf a) i =
-        λ i h. ap₂ _*_ (ap (position (λ k. getD E k 0) (gridOf a .axes) 0 q) (zero-add i) ∙ position-cong (λ k. getD E k 0) (box (gridOf a) [] b) (gridOf a .axes) 0 q i same-box ∙ position-place (gridOf a .axes) 0 i (λ k l u. w k (omega arith)) (omega arith) (omega arith)) (ap (λ k. getD T k 0) (zero-add i) ∙ r .strides i h) in
-        ap₂ _+_ (r .first) (offset-sum E T (gridOf a .axes) 0 q ∙ sumN-cong (gridOf a .axes) one)
-        ∙ sym (sumN-add (gridOf a .axes) (λ d. gridOf a .start d (label (gridOf a) b d) * stride (gridOf a) d) (λ d. x d * stride (gridOf a) d))
-        ∙ sumN-cong (gridOf a .axes) (λ d h. sym (sum-up d))
-        ∙ sym (point-formula a sound (global (gridOf a) b x))
-      where
-        sum-up : (d : ℕ) → global (gridOf a) b x d * stride (gridOf a) d ≡ gridOf a .start d (label (gridOf a) b d) * stride (gridOf a) d + x d * stride (gridOf a) d
-        sum-up d = unfold global in add-mul (gridOf a .start d (label (gridOf a) b d)) (x d) (stride (gridOf a) d)
-
-    -- a cell of a child
-    pub formed-root : (array : List ℤ) (work : ℕ → ℤ) (j c : ℕ) → j < gridOf a .axes → c < cells (gridOf a) (j ∷ []) b → formed (gridOf a) (read array) work [] b j c ≡ axisSums (boxCell array E T (gridOf a .axes) 0 at) (extent (gridOf a) b j) (product (box (gridOf a) [] b) (gridOf a .axes - (j + 1)) (j + 1)) c
-    unfolding formed source axisSums boxCell boxPlace
-    formed-root array work j c h l =
-        ap wrapped (sum-cong (extent (gridOf a) b j) (λ m u. ap (λ i. getD array i (pos 0)) (spot m u)))
-      where
-        x : ℕ → ℕ
-        x = position (box (gridOf a) (j ∷ []) b) (gridOf a .axes) 0 c
-
-        out : has [] j ≡ false
-        out = unfold has in refl
-
-        inside : Within (gridOf a .axes) (box (gridOf a) (j ∷ []) b) (position (box (gridOf a) (j ∷ []) b) (gridOf a .axes) 0 c)
-        inside d v = position-lt (box (gridOf a) (j ∷ []) b) (gridOf a .axes) 0 c d (unfold cells in l) (omega arith) (omega arith)
-
-        spot : (m : ℕ) → m < extent (gridOf a) b j → pointAt (gridOf a) (global (gridOf a) b (put (position (box (gridOf a) (j ∷ []) b) (gridOf a .axes) 0 c) j m)) ≡ at + offset E T (gridOf a .axes) 0 ((c / product (box (gridOf a) [] b) (gridOf a .axes - (j + 1)) (j + 1) * extent (gridOf a) b j + m) * product (box (gridOf a) [] b) (gridOf a .axes - (j + 1)) (j + 1) + c % product (box (gridOf a) [] b) (gridOf a .axes - (j + 1)) (j + 1))
-        spot m u =
-            sym (cell-point (put (position (box (gridOf a) (j ∷ []) b) (gridOf a .axes) 0 c) j m) (parent-within (gridOf a) law [] b j m _ out inside u))
-            ∙ ap (λ q. at + offset E T (gridOf a .axes) 0 q) (parent-formula (gridOf a) [] b j out h c m l ∙ ap (λ R. (c / R * extent (gridOf a) b j + m) * R + c % R) (inner-from (box (gridOf a) [] b) (gridOf a .axes) j))
+-- a sum with one position put in where it was 0
+sum-put : (n : ℕ) (x s : ℕ → ℕ) (j m : ℕ) → j < n → x j ≡ 0 → sumN n (λ d. put x j m d * s d) ≡ sumN n (λ d. x d * s d) + m * s j
+unfolding sumN
+sum-put zero x s j m h z = absurd (omega arith)
+sum-put (suc n) x s j m h z =
+    by (eqb j n)
+    (λ t.
+    let e = eqb-true j n t in
+    let a : sumN n (λ d. put x j m d * s d) ≡ sumN n (λ d. x d * s d) = sumN-cong n (λ d l. ap (λ v. v * s d) (put-other x j m d (λ q. omega arith))) in
+    let b : put x j m n * s n ≡ m * s j = ap (λ d. put x j m d * s d) (sym e) ∙ ap (λ v. v * s j) (put-same x j m) in
+    let c : x n * s n ≡ 0 = ap (λ d. x d * s d) (sym e) ∙ ap (λ v. v * s j) z ∙ (let y : 0 * s j ≡ 0 = omega arith in y) in
+    omega (arith, a, b, c))
+    (λ t.
+    let e = eqb-false j n t in
+    let k : j < n = omega arith in
+    let i = sum-put n x s j m k z in
+    let b : put x j m n * s n ≡ x n * s n = ap (λ v. v * s n) (put-other x j m n (λ q. e (sym q))) in
+    omega (arith, i, b))
 
 -- ---- the array
 
@@ -119,64 +80,116 @@ module _ (a : PlanLists) (sound : Sound a) where
   unfolding pointAt
   point-lt z h = rw (sym points-in) (place-lt (gridOf a .axes) 0 (λ x l r. h (gridOf a .rank x) (grid-lawful a sound .rank-lt x (omega arith))))
 
-  module _ (b : ℕ) (on : b < boards (gridOf a)) where
+  module _ (b : ℕ) (on : b < boards (gridOf a)) (j : ℕ) (inside : j < gridOf a .axes) where
+    law : Lawful (gridOf a)
+    law = grid-lawful a sound
+
+    -- the child that sums out the axis at place j: extents and strides in slots, and where the board's first point stands
+    pub record ChildBox (E T : List ℕ) (at : ℕ) : Type 0 where
+      pub extents : (d : ℕ) → d < gridOf a .axes → getD E d 0 ≡ box (gridOf a) (j ∷ []) b d
+      pub strides : (d : ℕ) → d < gridOf a .axes → getD T d 0 ≡ stride (gridOf a) d
+      pub first : at ≡ sumN (gridOf a .axes) (λ d. gridOf a .start d (label (gridOf a) b d) * stride (gridOf a) d)
+
+    out : has [] j ≡ false
+    out = unfold has in refl
+
+    whole : (d : ℕ) → box (gridOf a) [] b d ≡ extent (gridOf a) b d
+    unfolding box kept has
+    whole d = refl
+
     global-lt : (x : ℕ → ℕ) → Within (gridOf a .axes) (box (gridOf a) [] b) x → (d : ℕ) → d < gridOf a .axes → global (gridOf a) b x d < gridOf a .len d
     unfolding global
     global-lt x w d h =
-        let e : x d < gridOf a .start d (suc (label (gridOf a) b d)) - gridOf a .start d (label (gridOf a) b d) = (unfold extent in rw (whole a sound b on d) at (w d h)) in
-        let s = start-inside (gridOf a) (grid-lawful a sound) d h (suc (label (gridOf a) b d)) (label-lt (gridOf a) (grid-lawful a sound) b d on h) in
+        let e : x d < gridOf a .start d (suc (label (gridOf a) b d)) - gridOf a .start d (label (gridOf a) b d) = (unfold extent in rw (whole d) at (w d h)) in
+        let s = start-inside (gridOf a) law d h (suc (label (gridOf a) b d)) (label-lt (gridOf a) law b d on h) in
         omega arith
 
-    module _ {E T : List ℕ} {at : ℕ} (r : RootBox a sound b on E T at) where
-      reads-in : (q : ℕ) → q < boxSize E (gridOf a .axes) 0 → at + offset E T (gridOf a .axes) 0 q < points (a .lengths)
-      reads-in q h =
-          let k : q < product (box (gridOf a) [] b) (gridOf a .axes) 0 = rw (box-size a sound b on r (gridOf a .axes) 0 (omega arith)) at h in
-          let x : ℕ → ℕ = position (box (gridOf a) [] b) (gridOf a .axes) 0 q in
-          let w : Within (gridOf a .axes) (box (gridOf a) [] b) (position (box (gridOf a) [] b) (gridOf a .axes) 0 q) = λ i u. position-lt (box (gridOf a) [] b) (gridOf a .axes) 0 q i k (omega arith) (omega arith) in
-          let e = cell-point a sound b on r (position (box (gridOf a) [] b) (gridOf a .axes) 0 q) w in
-          let p = place-position (box (gridOf a) [] b) (gridOf a .axes) 0 q k in
-          let s = point-lt (global (gridOf a) b (position (box (gridOf a) [] b) (gridOf a .axes) 0 q)) (global-lt (position (box (gridOf a) [] b) (gridOf a .axes) 0 q) w) in
-          rw (ap (λ q. at + offset E T (gridOf a .axes) 0 q) (sym p) ∙ e) s
+    some-points : (d : ℕ) → d < gridOf a .axes → 0 < extent (gridOf a) b d
+    unfolding extent
+    some-points d h = let s = law .rising d (label (gridOf a) b d) h (label-lt (gridOf a) law b d on h) in omega arith
 
-      some-cells : (d : ℕ) → d < gridOf a .axes → 0 < box (gridOf a) [] b d
-      some-cells d h = rw (whole a sound b on d) (unfold extent in (let s = grid-lawful a sound .rising d (label (gridOf a) b d) h (label-lt (gridOf a) (grid-lawful a sound) b d on h) in omega arith))
+    some-cells : (d : ℕ) → d < gridOf a .axes → 0 < box (gridOf a) (j ∷ []) b d
+    unfolding box
+    some-cells d h = by (has (j ∷ []) d) (λ t. rw (kept-has (extent (gridOf a) b) (j ∷ []) d t) (omega arith)) (λ t. rw (kept-out (extent (gridOf a) b) (j ∷ []) d t) (some-points d h))
 
-      module _ (j : ℕ) (h : j < gridOf a .axes) (n : ℕ) (en : n ≡ gridOf a .axes) (c : ℕ) (ec : c ≡ product (box (gridOf a) [] b) (gridOf a .axes - (j + 1)) (j + 1)) (dst : ℕ) (ed : dst ≡ index (gridOf a) b j 0) where
-        child-cells : boxSize E (j - 0) 0 * c ≡ cells (gridOf a) (j ∷ []) b
-        child-cells = ap₂ _*_ (box-size a sound b on r (j - 0) 0 (omega arith) ∙ ap (λ m. product (box (gridOf a) [] b) m 0) (sub-zero j)) ec ∙ child-count (gridOf a) (grid-lawful a sound) [] b j on h (unfold has in refl)
+    -- the positions of the child's cell c
+    spots : ℕ → (ℕ → ℕ)
+    spots c = position (box (gridOf a) (j ∷ []) b) (gridOf a .axes) 0 c
 
-        pub root-summed : (w : ℕ) (array : List ℤ) → points (a .lengths) ≡ length array → gridOf a .axes ≤ length E → gridOf a .axes ≤ length T → boards (gridOf a) * share (gridOf a) ≤ w → Summed w (length array) E T n j c 0 at dst
-        root-summed w array p le lt m =
-            let z : n - 0 ≡ gridOf a .axes = omega arith in
-            let f = region-room (gridOf a) b j (cells (gridOf a) (j ∷ []) b) w on h (cells-fit (gridOf a) (grid-lawful a sound) [] b j on) m in
-            let s = product-pos (box (gridOf a) [] b) (gridOf a .axes) 0 (λ i l u. some-cells i (omega arith)) in
+    module _ {E T : List ℕ} {at : ℕ} (r : ChildBox E T at) where
+      pub child-size : boxSize E (gridOf a .axes) 0 ≡ cells (gridOf a) (j ∷ []) b
+      unfolding boxSize cells
+      child-size = product-cong (gridOf a .axes) 0 (λ k l u. r .extents k (omega arith))
+
+      pub child-some : 0 < boxSize E (gridOf a .axes) 0
+      child-some = rw child-size (unfold cells in product-pos (box (gridOf a) (j ∷ []) b) (gridOf a .axes) 0 (λ i l u. some-cells i (omega arith)))
+
+      module _ (c : ℕ) (l : c < cells (gridOf a) (j ∷ []) b) where
+        within : Within (gridOf a .axes) (box (gridOf a) (j ∷ []) b) (spots c)
+        unfolding spots
+        within d v = position-lt (box (gridOf a) (j ∷ []) b) (gridOf a .axes) 0 c d (unfold cells in l) (omega arith) (omega arith)
+
+        no-step : spots c j ≡ 0
+        no-step = let w = within j inside in let o = one-cell (gridOf a) [] b j out inside in omega arith
+
+        steps-sum : offset E T (gridOf a .axes) 0 c ≡ sumN (gridOf a .axes) (λ d. spots c d * stride (gridOf a) d)
+        unfolding spots
+        steps-sum = offset-sum E T (gridOf a .axes) 0 c ∙ sumN-cong (gridOf a .axes) (λ i h.
+            ap₂ _*_ (ap (position (λ k. getD E k 0) (gridOf a .axes) 0 c) (zero-add i) ∙ position-cong (λ k. getD E k 0) (box (gridOf a) (j ∷ []) b) (gridOf a .axes) 0 c i (λ k l u. r .extents k (omega arith)))
+            (ap (λ k. getD T k 0) (zero-add i) ∙ r .strides i h))
+
+        -- the points that cell c sums stand as far apart as neighbours on axis j
+        cell-point : (m : ℕ) → at + offset E T (gridOf a .axes) 0 c + m * stride (gridOf a) j ≡ pointAt (gridOf a) (global (gridOf a) b (put (spots c) j m))
+        cell-point m =
+            let n = gridOf a .axes in
+            let s : ℕ → ℕ = stride (gridOf a) in
+            let o : ℕ → ℕ = λ d. gridOf a .start d (label (gridOf a) b d) * stride (gridOf a) d in
+            let p = sum-put (gridOf a .axes) (spots c) (stride (gridOf a)) j m inside no-step in
+            let f = point-formula a sound (global (gridOf a) b (put (spots c) j m)) in
+            let g = sumN-cong (gridOf a .axes) (λ d h. sum-up d) in
+            let k = sumN-add (gridOf a .axes) o (λ d. put (spots c) j m d * stride (gridOf a) d) in
+            omega (arith, r .first, steps-sum, p, f, g, k)
+          where
+            sum-up : (d : ℕ) → global (gridOf a) b (put (spots c) j m) d * stride (gridOf a) d ≡ gridOf a .start d (label (gridOf a) b d) * stride (gridOf a) d + put (spots c) j m d * stride (gridOf a) d
+            sum-up d = unfold global in add-mul (gridOf a .start d (label (gridOf a) b d)) (put (spots c) j m d) (stride (gridOf a) d)
+
+        reads-in : (m : ℕ) → m < extent (gridOf a) b j → at + offset E T (gridOf a .axes) 0 c + m * stride (gridOf a) j < points (a .lengths)
+        reads-in m u = rw (cell-point m) (point-lt (global (gridOf a) b (put (spots c) j m)) (global-lt (put (spots c) j m) (parent-within (gridOf a) law [] b j m _ out within u)))
+
+        -- a cell of the child
+        formed-root : (array : List ℤ) (work : ℕ → ℤ) → formed (gridOf a) (read array) work [] b j c ≡ boxSums array E T (gridOf a .axes) 0 at (extent (gridOf a) b j) (stride (gridOf a) j) c
+        unfolding formed source boxSums boxPlace every spots
+        formed-root array work = ap wrapped (sum-cong (extent (gridOf a) b j) (λ m u. ap (λ i. getD array i (pos 0)) (sym (cell-point m))))
+
+      module _ (n : ℕ) (en : n ≡ gridOf a .axes) (count : ℕ) (ec : count ≡ extent (gridOf a) b j) (step : ℕ) (es : step ≡ stride (gridOf a) j) (dst : ℕ) (ed : dst ≡ index (gridOf a) b j 0) where
+        pub root-sums : (w : ℕ) (array : List ℤ) → points (a .lengths) ≡ length array → n ≤ length E → n ≤ length T → boards (gridOf a) * share (gridOf a) ≤ w → Sums w (length array) E T n 0 at count step dst
+        root-sums w array p le lt m =
+            let f = region-room (gridOf a) b j (cells (gridOf a) (j ∷ []) b) w on inside (cells-fit (gridOf a) law [] b j on) m in
+            let z = some-points j inside in
+            let y : extent (gridOf a) b j ≡ extent (gridOf a) b j - 1 + 1 = omega arith in
+            let v : extent (gridOf a) b j * stride (gridOf a) j ≡ (extent (gridOf a) b j - 1) * stride (gridOf a) j + stride (gridOf a) j = ap (λ (i : ℕ). i * stride (gridOf a) j) y ∙ add-mul (extent (gridOf a) b j - 1) 1 (stride (gridOf a) j) ∙ ap (λ (i : ℕ). (extent (gridOf a) b j - 1) * stride (gridOf a) j + i) (one-mul (stride (gridOf a) j)) in
             record {
-              before = omega arith;
-              below = omega arith;
-              within = rw z (record {
-                extents = omega arith;
-                strides = omega arith;
-                some = rw (box-size a sound b on r (gridOf a .axes) 0 (omega arith)) s;
-                places = λ q u. rw (sym p) (reads-in q u);
-              });
-              size = ec ∙ sym (ap (λ n. boxSize E (n - (j + 1)) (j + 1)) en ∙ box-size a sound b on r (gridOf a .axes - (j + 1)) (j + 1) (omega arith));
-              writes = rw (child-cells, ed) f;
+              extents = omega arith;
+              strides = omega arith;
+              some = rw en child-some;
+              any = rw ec z;
+              places = λ q u. rw (ec, es, en) (let k : q < cells (gridOf a) (j ∷ []) b = rw (← child-size, ← en) u in omega (arith, reads-in q k (extent (gridOf a) b j - 1) (omega arith), v, p));
+              writes = rw (ed, en, child-size) f;
             }
 
-        pub root-formed : (w array : List ℤ) → boards (gridOf a) * share (gridOf a) ≤ length w → written w dst (boxSize E (j - 0) 0 * c) (axisSums (boxCell array E T (n - 0) 0 at) (getD E j 0) c) ≡ table (length w) (oneChild (gridOf a) (read array) [] b j (read w))
+        pub root-formed : (w array : List ℤ) → boards (gridOf a) * share (gridOf a) ≤ length w → written w dst (boxSize E n 0) (boxSums array E T n 0 at count step) ≡ table (length w) (oneChild (gridOf a) (read array) [] b j (read w))
         root-formed w array m =
-            let z : n - 0 ≡ gridOf a .axes = omega arith in
-            let f = region-room (gridOf a) b j (cells (gridOf a) (j ∷ []) b) (length w) on h (cells-fit (gridOf a) (grid-lawful a sound) [] b j on) m in
-            rw (child-cells, ed, z, r .extents j h, ec)
+            let f = region-room (gridOf a) b j (cells (gridOf a) (j ∷ []) b) (length w) on inside (cells-fit (gridOf a) law [] b j on) m in
+            rw (en, child-size, ed, ec, es)
             (written-table w (index (gridOf a) b j 0) (cells (gridOf a) (j ∷ []) b) _ f
-            ∙ table-same (length w) _ _ (λ i u. cell i ∙ sym (child-range (gridOf a) (read array) (read w) [] b j i h (cells-fit (gridOf a) (grid-lawful a sound) [] b j on))))
+            ∙ table-same (length w) _ _ (λ i u. cell i ∙ sym (child-range (gridOf a) (read array) (read w) [] b j i inside (cells-fit (gridOf a) law [] b j on))))
           where
-            cell : (i : ℕ) → pick (leb (index (gridOf a) b j 0) i && ltb i (index (gridOf a) b j 0 + cells (gridOf a) (j ∷ []) b)) (axisSums (boxCell array E T (gridOf a .axes) 0 at) (extent (gridOf a) b j) (product (box (gridOf a) [] b) (gridOf a .axes - (j + 1)) (j + 1)) (i - index (gridOf a) b j 0)) (getD w i (pos 0)) ≡ pick (leb (index (gridOf a) b j 0) i && ltb i (index (gridOf a) b j 0 + cells (gridOf a) (j ∷ []) b)) (formed (gridOf a) (read array) (read w) [] b j (i - index (gridOf a) b j 0)) (read w i)
+            cell : (i : ℕ) → pick (leb (index (gridOf a) b j 0) i && ltb i (index (gridOf a) b j 0 + cells (gridOf a) (j ∷ []) b)) (boxSums array E T (gridOf a .axes) 0 at (extent (gridOf a) b j) (stride (gridOf a) j) (i - index (gridOf a) b j 0)) (getD w i (pos 0)) ≡ pick (leb (index (gridOf a) b j 0) i && ltb i (index (gridOf a) b j 0 + cells (gridOf a) (j ∷ []) b)) (formed (gridOf a) (read array) (read w) [] b j (i - index (gridOf a) b j 0)) (read w i)
             cell i =
                 by (leb (index (gridOf a) b j 0) i && ltb i (index (gridOf a) b j 0 + cells (gridOf a) (j ∷ []) b))
                 (λ t.
                 let p = both (leb (index (gridOf a) b j 0) i) _ t in
                 let u = leb-true (index (gridOf a) b j 0) i (p .0) in
                 let v = ltb-true i (index (gridOf a) b j 0 + cells (gridOf a) (j ∷ []) b) (p .1) in
-                rw t (sym (formed-root a sound b on r array (read w) j (i - index (gridOf a) b j 0) h (omega arith))))
+                rw t (sym (formed-root (i - index (gridOf a) b j 0) (omega arith) array (read w))))
                 (λ t. rw t refl)

@@ -3,11 +3,13 @@ use Prim.Native.Nat.{ℕ, zero, suc, _+_, _-_, _*_, _≤_, _<_}
 use mathlib.Core.Path.{_≡_, sym, _∙_, refl, ap, ap₂}
 use mathlib.Core.Bool.{true, false, not}
 use mathlib.Core.List.{List, [], _∷_}
-use native.Mathlib.Nat.{zero-add, mul-le-mul, le-refl}
+use native.Mathlib.Nat.{zero-add, sub-zero, mul-le-mul, le-refl}
 use native.Mathlib.Numerals.{add-one}
 use native.Mathlib.Omega.{arith}
-use lib.ListN.{length, getD, take}
-use lib.Seq.{getD-take}
+use borrow.Author.Tests.{eqb-true, eqb-false}
+use lib.Dec.{eqb}
+use lib.ListN.{length, getD, take, set}
+use lib.Seq.{getD-take, getD-set-same, getD-set-other}
 use Rattle.cube.specs.Limits.{lengthLimit, pointLimit}
 use Rattle.cube.specs.Boxes.{sumN, product}
 use Rattle.cube.specs.Choices.{points, keeps}
@@ -19,13 +21,15 @@ use Rattle.cube.proofs.Products.{product-last, product-le}
 use Rattle.planner.specs.Plans.{listsOf}
 use Rattle.planner.specs.declared.types.Plan.{Plan}
 use Rattle.planner.specs.Accepted.{Accepted}
-use Rattle.boards.specs.Grids.{Grid, gridOf, boards, boardWith, label, extent, box}
+use Rattle.boards.specs.Grids.{Grid, gridOf, boards, boardWith, label, extent, box, cells}
 use Rattle.boards.specs.Finding.{planGrid, summedIn, Labels}
 use Rattle.boards.proofs.Tallied.{lawful, axes-same}
-use Rattle.boards.proofs.Planned.{summed-has, order-slot, part-le, label-with, own-board, own-fit}
+use Rattle.boards.proofs.Planned.{summed-has, order-slot, part-le, label-with, own-board, own-fit, cells-small}
+use Rattle.cells.specs.Strides.{boxSize, Mergeable}
 use Rattle.memory.specs.Expansions.{axisLength, stride}
 use Rattle.memory.specs.Copies.{keptAlong, cellStride}
-use Rattle.memory.proofs.Rooted.{axis-length, points-in, RootBox}
+use Rattle.memory.proofs.Loops.{one-cell, same-axis}
+use Rattle.memory.proofs.Rooted.{axis-length, points-in, ChildBox, child-size, child-some}
 
 -- a stride so far: the choice's cells along the axes from `first` up to axis a
 pub record StrideTo (q : Plan) (mask first count a : ℕ) : Type 0 where
@@ -116,6 +120,13 @@ module _ (q : Plan) (ok : Accepted q) where
         let z : a ≡ planGrid q .axes = omega arith in
         (s .counted ∙ ap₂ (λ n f. product (keptAlong (planGrid q) (summedIn q mask)) (n - (f + 1)) (f + 1)) z (order-slot q ok d h), s .fits)
 
+    pub stride-small : (d : ℕ) → d < q .axes → cellStride (planGrid q) (summedIn q mask) d ≤ pointLimit
+    unfolding cellStride
+    stride-small d h =
+        let x = axes-same q ok in
+        let o = lawful q ok .order-lt d (omega arith) in
+        part-small (planGrid q .axes - (planGrid q .order d + 1)) (planGrid q .order d + 1) (omega arith)
+
     -- ---- the first cell
 
     pub point-begin : (labels : List ℕ) → PointTo q mask labels 0 0
@@ -143,22 +154,45 @@ module _ (q : Plan) (ok : Accepted q) where
   unfolding cellStride stride kept has
   root-stride d = refl
 
-  root-extent : (b d : ℕ) → box (planGrid q) [] b d ≡ extent (planGrid q) b d
-  unfolding box kept has
-  root-extent b d = refl
+  -- the box of the root's child that sums out the axis at place j: the root's, with one position on that axis
+  module _ (b : ℕ) (on : b < boards (planGrid q)) (j : ℕ) (inside : j < planGrid q .axes) (Y labels E T : List ℕ) (at : ℕ) (e : Y ≡ []) (own : (d : ℕ) → d < q .axes → getD labels d 0 ≡ label (planGrid q) b d)
+      (es : (d : ℕ) → d < q .axes → getD E d 0 ≡ box (planGrid q) Y (boardWith (planGrid q) (λ i. getD labels i 0)) d)
+      (ts : (d : ℕ) → d < q .axes → getD T d 0 ≡ cellStride (planGrid q) Y d)
+    where
+      root-extent : (d : ℕ) → d < q .axes → getD E d 0 ≡ box (planGrid q) [] b d
+      root-extent d h = es d h ∙ ap (λ Y. box (planGrid q) Y (boardWith (planGrid q) (λ i. getD labels i 0)) d) e ∙ ap (λ b. box (planGrid q) [] b d) (own-board q ok b on labels own)
 
-  pub root-box : (b : ℕ) (on : b < boards (planGrid q)) (Y labels E T : List ℕ) (at : ℕ) → Y ≡ [] → ((d : ℕ) → d < q .axes → getD labels d 0 ≡ label (planGrid q) b d)
-      → ((d : ℕ) → d < q .axes → getD E d 0 ≡ box (planGrid q) Y (boardWith (planGrid q) (λ i. getD labels i 0)) d)
-      → ((d : ℕ) → d < q .axes → getD T d 0 ≡ cellStride (planGrid q) Y d)
-      → at ≡ sumN (q .axes) (λ d. planGrid q .start d (getD labels d 0) * cellStride (planGrid q) Y d)
-      → RootBox (listsOf q) (ok .sound) b on E T at
-  root-box b on Y labels E T at e own es ts p =
-      let x = axes-same q ok in
-      record {
-        extents = λ d h. es d (omega arith) ∙ ap (λ Y. box (planGrid q) Y (boardWith (planGrid q) (λ i. getD labels i 0)) d) e ∙ root-extent _ d ∙ ap (λ b. extent (planGrid q) b d) (own-board q ok b on labels own);
-        strides = λ d h. ts d (omega arith) ∙ ap (λ Y. cellStride (planGrid q) Y d) e ∙ root-stride d;
-        first = p ∙ ap (λ n. sumN n (λ d. planGrid q .start d (getD labels d 0) * cellStride (planGrid q) Y d)) (sym x) ∙ sumN-cong (planGrid q .axes) (λ d h. ap₂ (λ l t. planGrid q .start d l * t) (own d (omega arith)) (ap (λ Y. cellStride (planGrid q) Y d) e ∙ root-stride d));
-      }
+      pub root-count : getD E j 0 ≡ extent (planGrid q) b j
+      root-count = let x = axes-same q ok in root-extent j (omega arith) ∙ (unfold box kept has in refl)
+
+      pub root-step : (d : ℕ) → d < planGrid q .axes → getD T d 0 ≡ stride (planGrid q) d
+      root-step d h = let x = axes-same q ok in ts d (omega arith) ∙ ap (λ Y. cellStride (planGrid q) Y d) e ∙ root-stride d
+
+      pub child-box : j < length E → at ≡ sumN (q .axes) (λ d. planGrid q .start d (getD labels d 0) * cellStride (planGrid q) Y d) → ChildBox (listsOf q) (ok .sound) b on j inside (set E j 1) T at
+      child-box l p =
+          let x = axes-same q ok in
+          record {
+            extents = λ d h. by (eqb d j)
+                (λ t. (let z = eqb-true d j t in rw z (getD-set-same E j 1 0 l ∙ sym (one-cell (planGrid q) [] b j (unfold has in refl) inside))))
+                (λ t. (let z = eqb-false d j t in getD-set-other E j d 1 0 z ∙ root-extent d (omega arith) ∙ sym (same-axis (planGrid q) [] b j (unfold has in refl) inside d z)));
+            strides = root-step;
+            first = p ∙ ap (λ n. sumN n (λ d. planGrid q .start d (getD labels d 0) * cellStride (planGrid q) Y d)) (sym x) ∙ sumN-cong (planGrid q .axes) (λ d h. ap₂ (λ l t. planGrid q .start d l * t) (own d (omega arith)) (ap (λ Y. cellStride (planGrid q) Y d) e ∙ root-stride d));
+          }
+
+      pub child-merges : (mask : ℕ) → Y ≡ summedIn q mask → {E′ : List ℕ} → ChildBox (listsOf q) (ok .sound) b on j inside E′ T at → q .axes ≤ length E′ → q .axes ≤ length T → Mergeable E′ T (q .axes)
+      child-merges mask ey {E′} r le lt =
+          let x = axes-same q ok in
+          let c = child-size (listsOf q) (ok .sound) b on j inside r in
+          let z : boxSize E′ (q .axes) 0 ≡ boxSize E′ (planGrid q .axes) 0 = ap (λ n. boxSize E′ n 0) (sym x) in
+          let s = child-some (listsOf q) (ok .sound) b on j inside r in
+          let m : cells (planGrid q) (j ∷ []) b ≤ pointLimit = (unfold cells in rw sub-zero at (cells-small q ok (j ∷ []) b 0 (planGrid q .axes) on (omega arith) (omega arith))) in
+          record {
+            extents = le;
+            strides = lt;
+            some = omega arith;
+            most = omega arith;
+            near = λ i h. rw (ts i h, ey) (stride-small mask i h);
+          }
 
 -- a choice with no earlier axis is the root
 pub next-empty : (Y : List ℕ) → next Y ≡ 0 → Y ≡ []

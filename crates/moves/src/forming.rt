@@ -13,6 +13,7 @@ ghost use Rattle.memory.specs.Expansions.{oneChild, Forms};
 use crate::points::extents_of;
 use crate::points::first_cell;
 use crate::points::strides_of;
+use boxes::merging::merge;
 use boxes::sums::sum_box;
 use cells::rows::sum_axis;
 use cube::types::Choice;
@@ -45,28 +46,32 @@ pub fn form_cells(plan: Plan, choice: Choice, board: u64, j: usize, work: &mut [
     );
 }
 
-// Of the root, whose cells are the points of the board's box of the array.
+// Of the root, whose cells are the points of the board's box of the array: a sum's points stand as far apart as neighbours on the axis.
 pub fn form_points(plan: Plan, root: Choice, board: u64, j: usize, array: &[i32], work: &mut [i64])
     requires { ⌜ (Forms plan (root .mask) board j (length (now work))) × (next (summedIn plan (root .mask)) ≡ 0) × (points (listsOf plan .lengths) ≡ length (now array)) ⌝ }
     ensures { λ _. ⌜ now (work .exit) ≡ table (length (now (work .entry))) (oneChild (planGrid plan) (read (now (array .entry))) (summedIn plan (root .mask)) board j (read (now (work .entry)))) ⌝ }
 {
     let labels = labels_of(plan, board);
-    let extents = extents_of(plan, root, labels);
-    let strides = strides_of(plan, root);
+    let mut extents = extents_of(plan, root, labels);
+    let mut strides = strides_of(plan, root);
     let first = first_cell(plan, root, labels);
-    let n = plan.axes as usize;
-    let inner = cells_between(plan, root, labels, j + 1, n);
     let dst = region_at(plan, board, j);
+    let count = extents[j];
+    let step = strides[j];
+    // The child's own box has one position on the axis.
+    extents[j] = 1;
+    let n = plan.axes as usize;
+    let d = merge(&mut extents, &mut strides, n);
     sum_box(
         work,
         array,
         &extents,
         &strides,
-        n,
-        j,
-        inner as usize,
-        0,
+        n - d,
+        d,
         first as usize,
+        count,
+        step,
         dst as usize,
     );
 }

@@ -1,27 +1,29 @@
--- `sum_box` meets its contract. The invariant: the first x parts of the child are written; the measure of the calls is the number of axes before axis j.
-use borrow.Author.Needs.{needs}
-use Prim.Native.Nat.{_≤_, _-_, _+_, _*_}
-use mathlib.Core.Path.{_≡_, _∙_, refl}
-use native.Mathlib.Omega.{arith}
-use native.Mathlib.Nat.{zero-mul, add-zero, add-mul, one-mul, mul-assoc}
+use mir.Syntax.{w64}
+use mir.Val.{SFits}
+use mir.Facts.{toZ-ofZ}
+use Rattle.cells.proofs.Summing.{sums-part, sums-more, sums-reads, row-sums-fit, row-sums, one-sum-fits, one-sum, one-size, row-count}
+use Rattle.cells.proofs.Parts.{size-of}
+use Rattle.cells.specs.Strides.{boxSize, boxSums}
+use Rattle.cells.specs.Rows.{placed, written}
 use lib.ListN.{length, getD}
-use Rattle.cells.specs.Rows.{placed, written, axisSums}
-use Rattle.cells.specs.Strides.{boxSize, boxCell}
-use Rattle.cells.proofs.Children.{child-more, child-size, child-fits, child-here, here-fits, here-reads, closer}
+use native.Mathlib.Nat.{zero-mul, add-zero, add-mul, one-mul}
+use native.Mathlib.Omega.{arith}
+use mathlib.Core.Path.{_≡_, _∙_, refl}
+use Prim.Native.Nat.{suc, _≤_, _-_, _+_, _*_}
+use borrow.Author.Needs.{needs}
 use Prim.Native.Nat.{ℕ, _<_}
 use borrow.Fn.Kinds.{In}
 use borrow.Fn.PlainCycle.{Measures, is, falls, and}
 use Rattle.boxes.proofs.sums.sum_box.Reads as sum-box
 use Rattle.boxes.proofs.sums.sum_box.Kinds as sum-box-kinds
 use Rattle.boxes.proofs.sums.+sum_box.Lts-sum_box as sum-box-lts
-use Rattle.boxes.proofs.sums.sum_first.Reads as sum-first-reads
-use Rattle.boxes.proofs.sums.sum_lines.Reads as sum-lines-reads
-use Rattle.boxes.proofs.sums.sum_ranks.Reads as sum-ranks-reads
+use Rattle.boxes.proofs.sums.sum_combs.Reads as sum-combs-reads
+use Rattle.boxes.proofs.sums.sum_points.Reads as sum-points-reads
 use Rattle.boxes.proofs.sums.+sum_box.{statement}
 use Rattle.boxes.proofs.sums.+sum_box.Tie.{close}
 
 abbrev μ-sum-box : Measures 4 sum-box-kinds.ps ℕ
-μ-sum-box κs a = a .1 .1 .1 .1 .1 .0 - a .1 .1 .1 .1 .1 .1 .1 .0
+μ-sum-box κs a = a .1 .1 .1 .1 .0
 
 abbrev sum-box-at : ℕ → In 4 sum-box-kinds.ps
 sum-box-at t = and 4 sum-box-kinds.ps (is 4 sum-box-kinds.ps μ-sum-box t) sum-box.Pre
@@ -30,400 +32,343 @@ abbrev sum-box-below : ℕ → In 4 sum-box-kinds.ps
 sum-box-below t = and 4 sum-box-kinds.ps (falls 4 sum-box-kinds.ps _<_ μ-sum-box t) sum-box.Pre
 
 abbrev sum-box-Inv-loop : sum-box-lts.InvT-loop
-sum-box-Inv-loop work₀ array extents strides n j inner d at dst e t to₀ x₀ work to x = (x ≤ e) × (length work ≡ length work₀) × (to ≡ dst + x * (boxSize extents (j - (d + 1)) (d + 1) * inner)) × (work ≡ written work₀ dst (x * (boxSize extents (j - (d + 1)) (d + 1) * inner)) (axisSums (boxCell array extents strides (n - d) d at) (getD extents j 0) inner))
+sum-box-Inv-loop work₀ array extents strides m d at n step dst e t to₀ x₀ work to x = (x ≤ e) × (length work ≡ length work₀) × (to ≡ dst + x * boxSize extents (m - 1) (d + 1)) × (work ≡ written work₀ dst (x * boxSize extents (m - 1) (d + 1)) (boxSums array extents strides m d at n step))
 
 abbrev sum-box-μ-loop : sum-box-lts.MeasureT-loop
-sum-box-μ-loop work₀ array extents strides n j inner d at dst e t to₀ x₀ work to x = e - x
+sum-box-μ-loop work₀ array extents strides m d at n step dst e t to₀ x₀ work to x = e - x
 
-sum-box-sum-first-requires : (t : ℕ) → sum-box-lts.Need-sum-first-requires (
-  sum-first-reads.Asked,
-  sum-first-reads.Learnt,
-  sum-lines-reads.Asked,
-  sum-lines-reads.Learnt,
-  sum-ranks-reads.Asked,
-  sum-ranks-reads.Learnt,
+-- src/sums.rt:62:13
+sum-box-sum-points-requires : (t : ℕ) → sum-box-lts.Need-sum-points-requires (
+  sum-points-reads.Asked,
+  sum-points-reads.Learnt,
+  sum-combs-reads.Asked,
+  sum-combs-reads.Learnt,
   sum-box-below t,
   sum-box.Post,
 ) (sum-box-at t) sum-box.Post sum-box-Inv-loop sum-box-μ-loop
-sum-box-sum-first-requires t c κs = let s = c .before .before .before .before in here-fits (s .pre .1) (c .before .if1 .taken)
+sum-box-sum-points-requires t c κs = let s = c .before .before .before in one-sum-fits (c .if1 .taken) (s .pre .1) .0
 
+-- src/sums.rt:63:9
+sum-box-mul-sum : (t : ℕ) → sum-box-lts.Need-mul-sum (
+  sum-points-reads.Asked,
+  sum-points-reads.Learnt,
+  sum-combs-reads.Asked,
+  sum-combs-reads.Learnt,
+  sum-box-below t,
+  sum-box.Post,
+) (sum-box-at t) sum-box.Post sum-box-Inv-loop sum-box-μ-loop
+sum-box-mul-sum t c = search needs
+
+-- src/sums.rt:63:9
+sum-box-slice-set-from-sum : (t : ℕ) → sum-box-lts.Need-slice-set-from-sum (
+  sum-points-reads.Asked,
+  sum-points-reads.Learnt,
+  sum-combs-reads.Asked,
+  sum-combs-reads.Learnt,
+  sum-box-below t,
+  sum-box.Post,
+) (sum-box-at t) sum-box.Post sum-box-Inv-loop sum-box-μ-loop
+sum-box-slice-set-from-sum t c = let s = c .before .before .before .before in one-sum-fits (c .before .if1 .taken) (s .pre .1) .1
+
+-- src/sums.rt:64:9
 sum-box-same-length : (t : ℕ) → sum-box-lts.Need-same-length (
-  sum-first-reads.Asked,
-  sum-first-reads.Learnt,
-  sum-lines-reads.Asked,
-  sum-lines-reads.Learnt,
-  sum-ranks-reads.Asked,
-  sum-ranks-reads.Learnt,
+  sum-points-reads.Asked,
+  sum-points-reads.Learnt,
+  sum-combs-reads.Asked,
+  sum-combs-reads.Learnt,
   sum-box-below t,
   sum-box.Post,
 ) (sum-box-at t) sum-box.Post sum-box-Inv-loop sum-box-μ-loop
 sum-box-same-length t c = search needs
 
+-- src/sums.rt:64:9
 sum-box-returns : (t : ℕ) → sum-box-lts.Need-returns (
-  sum-first-reads.Asked,
-  sum-first-reads.Learnt,
-  sum-lines-reads.Asked,
-  sum-lines-reads.Learnt,
-  sum-ranks-reads.Asked,
-  sum-ranks-reads.Learnt,
+  sum-points-reads.Asked,
+  sum-points-reads.Learnt,
+  sum-combs-reads.Asked,
+  sum-combs-reads.Learnt,
   sum-box-below t,
   sum-box.Post,
 ) (sum-box-at t) sum-box.Post sum-box-Inv-loop sum-box-μ-loop
-sum-box-returns t c =
-    let k = child-here _ _ _ _ _ _ _ _ _ _ (c .before .before .before .if1 .taken) in
-    (k .0, c .before .sum-first .ensures ∙ k .1)
+sum-box-returns t c = let s = c .before .before .before .before in
+    let q = c .before .if1 .taken in
+    let ok : SFits w64 (c .sum-points .result) = record { sfits = c .sum-points .ok } in
+    (one-size _ _ _ q, rw (toZ-ofZ ok, c .sum-points .ensures) (one-sum _ _ _ _ _ _ _ _ _ _ q))
 
-sum-box-add-if2 : (t : ℕ) → sum-box-lts.Need-add-if2 (
-  sum-first-reads.Asked,
-  sum-first-reads.Learnt,
-  sum-lines-reads.Asked,
-  sum-lines-reads.Learnt,
-  sum-ranks-reads.Asked,
-  sum-ranks-reads.Learnt,
-  sum-box-below t,
-  sum-box.Post,
-) (sum-box-at t) sum-box.Post sum-box-Inv-loop sum-box-μ-loop
-sum-box-add-if2 t c = search needs
-
-sum-box-add-if3 : (t : ℕ) → sum-box-lts.Need-add-if3 (
-  sum-first-reads.Asked,
-  sum-first-reads.Learnt,
-  sum-lines-reads.Asked,
-  sum-lines-reads.Learnt,
-  sum-ranks-reads.Asked,
-  sum-ranks-reads.Learnt,
-  sum-box-below t,
-  sum-box.Post,
-) (sum-box-at t) sum-box.Post sum-box-Inv-loop sum-box-μ-loop
-sum-box-add-if3 t c = search needs
-
-sum-box-sum-lines-requires : (t : ℕ) → sum-box-lts.Need-sum-lines-requires (
-  sum-first-reads.Asked,
-  sum-first-reads.Learnt,
-  sum-lines-reads.Asked,
-  sum-lines-reads.Learnt,
-  sum-ranks-reads.Asked,
-  sum-ranks-reads.Learnt,
-  sum-box-below t,
-  sum-box.Post,
-) (sum-box-at t) sum-box.Post sum-box-Inv-loop sum-box-μ-loop
-sum-box-sum-lines-requires t c κs = search needs
-
-sum-box-same-length-2 : (t : ℕ) → sum-box-lts.Need-same-length-2 (
-  sum-first-reads.Asked,
-  sum-first-reads.Learnt,
-  sum-lines-reads.Asked,
-  sum-lines-reads.Learnt,
-  sum-ranks-reads.Asked,
-  sum-ranks-reads.Learnt,
-  sum-box-below t,
-  sum-box.Post,
-) (sum-box-at t) sum-box.Post sum-box-Inv-loop sum-box-μ-loop
-sum-box-same-length-2 t c = search needs
-
-sum-box-returns-2 : (t : ℕ) → sum-box-lts.Need-returns-2 (
-  sum-first-reads.Asked,
-  sum-first-reads.Learnt,
-  sum-lines-reads.Asked,
-  sum-lines-reads.Learnt,
-  sum-ranks-reads.Asked,
-  sum-ranks-reads.Learnt,
-  sum-box-below t,
-  sum-box.Post,
-) (sum-box-at t) sum-box.Post sum-box-Inv-loop sum-box-μ-loop
-sum-box-returns-2 t c = search needs
-
-sum-box-sum-ranks-requires : (t : ℕ) → sum-box-lts.Need-sum-ranks-requires (
-  sum-first-reads.Asked,
-  sum-first-reads.Learnt,
-  sum-lines-reads.Asked,
-  sum-lines-reads.Learnt,
-  sum-ranks-reads.Asked,
-  sum-ranks-reads.Learnt,
-  sum-box-below t,
-  sum-box.Post,
-) (sum-box-at t) sum-box.Post sum-box-Inv-loop sum-box-μ-loop
-sum-box-sum-ranks-requires t c κs = search needs
-
-sum-box-same-length-3 : (t : ℕ) → sum-box-lts.Need-same-length-3 (
-  sum-first-reads.Asked,
-  sum-first-reads.Learnt,
-  sum-lines-reads.Asked,
-  sum-lines-reads.Learnt,
-  sum-ranks-reads.Asked,
-  sum-ranks-reads.Learnt,
-  sum-box-below t,
-  sum-box.Post,
-) (sum-box-at t) sum-box.Post sum-box-Inv-loop sum-box-μ-loop
-sum-box-same-length-3 t c = search needs
-
-sum-box-returns-3 : (t : ℕ) → sum-box-lts.Need-returns-3 (
-  sum-first-reads.Asked,
-  sum-first-reads.Learnt,
-  sum-lines-reads.Asked,
-  sum-lines-reads.Learnt,
-  sum-ranks-reads.Asked,
-  sum-ranks-reads.Learnt,
-  sum-box-below t,
-  sum-box.Post,
-) (sum-box-at t) sum-box.Post sum-box-Inv-loop sum-box-μ-loop
-sum-box-returns-3 t c = search needs
-
+-- src/sums.rt:66:13
 sum-box-mul-e : (t : ℕ) → sum-box-lts.Need-mul-e (
-  sum-first-reads.Asked,
-  sum-first-reads.Learnt,
-  sum-lines-reads.Asked,
-  sum-lines-reads.Learnt,
-  sum-ranks-reads.Asked,
-  sum-ranks-reads.Learnt,
+  sum-points-reads.Asked,
+  sum-points-reads.Learnt,
+  sum-combs-reads.Asked,
+  sum-combs-reads.Learnt,
   sum-box-below t,
   sum-box.Post,
 ) (sum-box-at t) sum-box.Post sum-box-Inv-loop sum-box-μ-loop
 sum-box-mul-e t c = search needs
 
+-- src/sums.rt:66:13
 sum-box-shared-slice-read-e : (t : ℕ) → sum-box-lts.Need-shared-slice-read-e (
-  sum-first-reads.Asked,
-  sum-first-reads.Learnt,
-  sum-lines-reads.Asked,
-  sum-lines-reads.Learnt,
-  sum-ranks-reads.Asked,
-  sum-ranks-reads.Learnt,
+  sum-points-reads.Asked,
+  sum-points-reads.Learnt,
+  sum-combs-reads.Asked,
+  sum-combs-reads.Learnt,
   sum-box-below t,
   sum-box.Post,
 ) (sum-box-at t) sum-box.Post sum-box-Inv-loop sum-box-μ-loop
-sum-box-shared-slice-read-e t c = let b = c .before .before .before .before .before .pre .1 in omega (arith, b .before, b .below, b .within .extents, b .within .strides)
+sum-box-shared-slice-read-e t c = omega (arith, c .before .before .before .before .pre .1 .extents)
 
+-- src/sums.rt:67:13
 sum-box-mul-t : (t : ℕ) → sum-box-lts.Need-mul-t (
-  sum-first-reads.Asked,
-  sum-first-reads.Learnt,
-  sum-lines-reads.Asked,
-  sum-lines-reads.Learnt,
-  sum-ranks-reads.Asked,
-  sum-ranks-reads.Learnt,
+  sum-points-reads.Asked,
+  sum-points-reads.Learnt,
+  sum-combs-reads.Asked,
+  sum-combs-reads.Learnt,
   sum-box-below t,
   sum-box.Post,
 ) (sum-box-at t) sum-box.Post sum-box-Inv-loop sum-box-μ-loop
 sum-box-mul-t t c = search needs
 
+-- src/sums.rt:67:13
 sum-box-shared-slice-read-t : (t : ℕ) → sum-box-lts.Need-shared-slice-read-t (
-  sum-first-reads.Asked,
-  sum-first-reads.Learnt,
-  sum-lines-reads.Asked,
-  sum-lines-reads.Learnt,
-  sum-ranks-reads.Asked,
-  sum-ranks-reads.Learnt,
+  sum-points-reads.Asked,
+  sum-points-reads.Learnt,
+  sum-combs-reads.Asked,
+  sum-combs-reads.Learnt,
   sum-box-below t,
   sum-box.Post,
 ) (sum-box-at t) sum-box.Post sum-box-Inv-loop sum-box-μ-loop
-sum-box-shared-slice-read-t t c = let b = c .before .before .before .before .before .before .pre .1 in omega (arith, b .before, b .below, b .within .extents, b .within .strides)
+sum-box-shared-slice-read-t t c = omega (arith, c .before .before .before .before .before .pre .1 .strides)
 
+-- src/sums.rt:69:9
+sum-box-sum-combs-requires : (t : ℕ) → sum-box-lts.Need-sum-combs-requires (
+  sum-points-reads.Asked,
+  sum-points-reads.Learnt,
+  sum-combs-reads.Asked,
+  sum-combs-reads.Learnt,
+  sum-box-below t,
+  sum-box.Post,
+) (sum-box-at t) sum-box.Post sum-box-Inv-loop sum-box-μ-loop
+sum-box-sum-combs-requires t c κs = let s = c .before .before .before .before .before .before .before in row-sums-fit (c .before .if2 .taken) (s .pre .1)
+
+-- src/sums.rt:70:9
+sum-box-same-length-2 : (t : ℕ) → sum-box-lts.Need-same-length-2 (
+  sum-points-reads.Asked,
+  sum-points-reads.Learnt,
+  sum-combs-reads.Asked,
+  sum-combs-reads.Learnt,
+  sum-box-below t,
+  sum-box.Post,
+) (sum-box-at t) sum-box.Post sum-box-Inv-loop sum-box-μ-loop
+sum-box-same-length-2 t c = search needs
+
+-- src/sums.rt:70:9
+sum-box-returns-2 : (t : ℕ) → sum-box-lts.Need-returns-2 (
+  sum-points-reads.Asked,
+  sum-points-reads.Learnt,
+  sum-combs-reads.Asked,
+  sum-combs-reads.Learnt,
+  sum-box-below t,
+  sum-box.Post,
+) (sum-box-at t) sum-box.Post sum-box-Inv-loop sum-box-μ-loop
+sum-box-returns-2 t c = let s = c .before .before .before .before .before .before .before .before .before in
+    let q = c .before .before .before .if2 .taken in
+    (row-count _ _ _ q, c .before .sum-combs .ensures ∙ row-sums _ _ _ _ _ _ _ _ _ _ q)
+
+-- src/sums.rt:73:5
 sum-box-loop-holds : (t : ℕ) → sum-box-lts.Need-loop-holds (
-  sum-first-reads.Asked,
-  sum-first-reads.Learnt,
-  sum-lines-reads.Asked,
-  sum-lines-reads.Learnt,
-  sum-ranks-reads.Asked,
-  sum-ranks-reads.Learnt,
+  sum-points-reads.Asked,
+  sum-points-reads.Learnt,
+  sum-combs-reads.Asked,
+  sum-combs-reads.Learnt,
   sum-box-below t,
   sum-box.Post,
 ) (sum-box-at t) sum-box.Post sum-box-Inv-loop sum-box-μ-loop
 unfolding written placed
 sum-box-loop-holds t c = (search needs, refl, rw (zero-mul, add-zero), rw zero-mul)
 
+-- src/sums.rt:79:13
+sum-box-sub-sum-box : (t : ℕ) → sum-box-lts.Need-sub-sum-box (
+  sum-points-reads.Asked,
+  sum-points-reads.Learnt,
+  sum-combs-reads.Asked,
+  sum-combs-reads.Learnt,
+  sum-box-below t,
+  sum-box.Post,
+) (sum-box-at t) sum-box.Post sum-box-Inv-loop sum-box-μ-loop
+sum-box-sub-sum-box t c = search needs
+
+-- src/sums.rt:80:13
 sum-box-add-sum-box : (t : ℕ) → sum-box-lts.Need-add-sum-box (
-  sum-first-reads.Asked,
-  sum-first-reads.Learnt,
-  sum-lines-reads.Asked,
-  sum-lines-reads.Learnt,
-  sum-ranks-reads.Asked,
-  sum-ranks-reads.Learnt,
+  sum-points-reads.Asked,
+  sum-points-reads.Learnt,
+  sum-combs-reads.Asked,
+  sum-combs-reads.Learnt,
   sum-box-below t,
   sum-box.Post,
 ) (sum-box-at t) sum-box.Post sum-box-Inv-loop sum-box-μ-loop
-sum-box-add-sum-box t c =
-    let l = c .before .before in
+sum-box-add-sum-box t c = let l = c .before .before in
     let s = l .before .before .before .before .before .before .before in
+    let q : s .args .m ≡ suc (s .args .m - 1) = omega (arith, l .before .before .before .before .if1 .left) in
     let b = s .pre .1 in
-    let h : s .args .d < s .args .j = omega (arith, b .before, l .before .before .before .before .if1 .left) in
     let x : l .loop .x < getD (s .args .extents .now) (s .args .d) 0 = omega arith in
-    omega arith
+    omega (arith, b .extents)
 
+-- src/sums.rt:81:18
 sum-box-mul-sum-box : (t : ℕ) → sum-box-lts.Need-mul-sum-box (
-  sum-first-reads.Asked,
-  sum-first-reads.Learnt,
-  sum-lines-reads.Asked,
-  sum-lines-reads.Learnt,
-  sum-ranks-reads.Asked,
-  sum-ranks-reads.Learnt,
+  sum-points-reads.Asked,
+  sum-points-reads.Learnt,
+  sum-combs-reads.Asked,
+  sum-combs-reads.Learnt,
   sum-box-below t,
   sum-box.Post,
 ) (sum-box-at t) sum-box.Post sum-box-Inv-loop sum-box-μ-loop
-sum-box-mul-sum-box t c =
-    let l = c .before .before in
+sum-box-mul-sum-box t c = let l = c .before .before in
     let s = l .before .before .before .before .before .before .before in
+    let q : s .args .m ≡ suc (s .args .m - 1) = omega (arith, l .before .before .before .before .if1 .left) in
     let b = s .pre .1 in
-    let h : s .args .d < s .args .j = omega (arith, b .before, l .before .before .before .before .if1 .left) in
     let x : l .loop .x < getD (s .args .extents .now) (s .args .d) 0 = omega arith in
-    omega (arith, here-reads b _ x)
+    omega (arith, sums-reads _ _ q _ b _ x)
 
+-- src/sums.rt:81:13
 sum-box-add-sum-box-2 : (t : ℕ) → sum-box-lts.Need-add-sum-box-2 (
-  sum-first-reads.Asked,
-  sum-first-reads.Learnt,
-  sum-lines-reads.Asked,
-  sum-lines-reads.Learnt,
-  sum-ranks-reads.Asked,
-  sum-ranks-reads.Learnt,
+  sum-points-reads.Asked,
+  sum-points-reads.Learnt,
+  sum-combs-reads.Asked,
+  sum-combs-reads.Learnt,
   sum-box-below t,
   sum-box.Post,
 ) (sum-box-at t) sum-box.Post sum-box-Inv-loop sum-box-μ-loop
-sum-box-add-sum-box-2 t c =
-    let l = c .before .before in
+sum-box-add-sum-box-2 t c = let l = c .before .before in
     let s = l .before .before .before .before .before .before .before in
+    let q : s .args .m ≡ suc (s .args .m - 1) = omega (arith, l .before .before .before .before .if1 .left) in
     let b = s .pre .1 in
-    let h : s .args .d < s .args .j = omega (arith, b .before, l .before .before .before .before .if1 .left) in
     let x : l .loop .x < getD (s .args .extents .now) (s .args .d) 0 = omega arith in
-    omega (arith, here-reads b _ x)
+    omega (arith, sums-reads _ _ q _ b _ x)
 
+-- src/sums.rt:74:13
 sum-box-sum-box-requires : (t : ℕ) → sum-box-lts.Need-sum-box-requires (
-  sum-first-reads.Asked,
-  sum-first-reads.Learnt,
-  sum-lines-reads.Asked,
-  sum-lines-reads.Learnt,
-  sum-ranks-reads.Asked,
-  sum-ranks-reads.Learnt,
+  sum-points-reads.Asked,
+  sum-points-reads.Learnt,
+  sum-combs-reads.Asked,
+  sum-combs-reads.Learnt,
   sum-box-below t,
   sum-box.Post,
 ) (sum-box-at t) sum-box.Post sum-box-Inv-loop sum-box-μ-loop
-sum-box-sum-box-requires t c κs =
-    let l = c .before .before in
+sum-box-sum-box-requires t c κs = let l = c .before .before in
     let s = l .before .before .before .before .before .before .before in
+    let q : s .args .m ≡ suc (s .args .m - 1) = omega (arith, l .before .before .before .before .if1 .left) in
     let b = s .pre .1 in
-    let h : s .args .d < s .args .j = omega (arith, b .before, l .before .before .before .before .if1 .left) in
     let x : l .loop .x < getD (s .args .extents .now) (s .args .d) 0 = omega arith in
-    (closer (s .pre .0) h, rw (l .loop .inv .1, l .loop .inv .2) (child-fits b h _ x))
+    (omega arith, rw (l .loop .inv .1, l .loop .inv .2) (sums-part _ _ q _ b _ x))
 
+-- src/sums.rt:86:14
 sum-box-add-to : (t : ℕ) → sum-box-lts.Need-add-to (
-  sum-first-reads.Asked,
-  sum-first-reads.Learnt,
-  sum-lines-reads.Asked,
-  sum-lines-reads.Learnt,
-  sum-ranks-reads.Asked,
-  sum-ranks-reads.Learnt,
+  sum-points-reads.Asked,
+  sum-points-reads.Learnt,
+  sum-combs-reads.Asked,
+  sum-combs-reads.Learnt,
   sum-box-below t,
   sum-box.Post,
 ) (sum-box-at t) sum-box.Post sum-box-Inv-loop sum-box-μ-loop
-sum-box-add-to t c =
-    let l = c .before .before .before .before in
+sum-box-add-to t c = let l = c .before .before .before .before in
     let s = l .before .before .before .before .before .before .before in
+    let q : s .args .m ≡ suc (s .args .m - 1) = omega (arith, l .before .before .before .before .if1 .left) in
     let b = s .pre .1 in
-    let h : s .args .d < s .args .j = omega (arith, b .before, l .before .before .before .before .if1 .left) in
     let x : l .loop .x < getD (s .args .extents .now) (s .args .d) 0 = omega arith in
-    let f = child-fits b h _ x .writes in
-    omega (arith, f, c .before .sum-box .ensures .0)
+    omega (arith, sums-part _ _ q _ b _ x .writes)
 
+-- src/sums.rt:73:9
 sum-box-add-x : (t : ℕ) → sum-box-lts.Need-add-x (
-  sum-first-reads.Asked,
-  sum-first-reads.Learnt,
-  sum-lines-reads.Asked,
-  sum-lines-reads.Learnt,
-  sum-ranks-reads.Asked,
-  sum-ranks-reads.Learnt,
+  sum-points-reads.Asked,
+  sum-points-reads.Learnt,
+  sum-combs-reads.Asked,
+  sum-combs-reads.Learnt,
   sum-box-below t,
   sum-box.Post,
 ) (sum-box-at t) sum-box.Post sum-box-Inv-loop sum-box-μ-loop
-sum-box-add-x t c =
-    let l = c .before .before .before .before in
+sum-box-add-x t c = let l = c .before .before .before .before in
     let s = l .before .before .before .before .before .before .before in
+    let q : s .args .m ≡ suc (s .args .m - 1) = omega (arith, l .before .before .before .before .if1 .left) in
     let b = s .pre .1 in
-    let h : s .args .d < s .args .j = omega (arith, b .before, l .before .before .before .before .if1 .left) in
     let x : l .loop .x < getD (s .args .extents .now) (s .args .d) 0 = omega arith in
-    omega (arith, l .before .before .shared-slice-known3 .given (s .args .d))
+    let k = l .before .before .before in
+    omega (arith, k .shared-slice-known3 .given (s .args .d))
 
+-- src/sums.rt:73:5
 sum-box-loop-less : (t : ℕ) → sum-box-lts.Need-loop-less (
-  sum-first-reads.Asked,
-  sum-first-reads.Learnt,
-  sum-lines-reads.Asked,
-  sum-lines-reads.Learnt,
-  sum-ranks-reads.Asked,
-  sum-ranks-reads.Learnt,
+  sum-points-reads.Asked,
+  sum-points-reads.Learnt,
+  sum-combs-reads.Asked,
+  sum-combs-reads.Learnt,
   sum-box-below t,
   sum-box.Post,
 ) (sum-box-at t) sum-box.Post sum-box-Inv-loop sum-box-μ-loop
 sum-box-loop-less t c = search needs
 
+-- src/sums.rt:73:5
 sum-box-loop-again : (t : ℕ) → sum-box-lts.Need-loop-again (
-  sum-first-reads.Asked,
-  sum-first-reads.Learnt,
-  sum-lines-reads.Asked,
-  sum-lines-reads.Learnt,
-  sum-ranks-reads.Asked,
-  sum-ranks-reads.Learnt,
+  sum-points-reads.Asked,
+  sum-points-reads.Learnt,
+  sum-combs-reads.Asked,
+  sum-combs-reads.Learnt,
   sum-box-below t,
   sum-box.Post,
 ) (sum-box-at t) sum-box.Post sum-box-Inv-loop sum-box-μ-loop
-sum-box-loop-again t c =
-    let l = c .before .before .before .before in
+sum-box-loop-again t c = let l = c .before .before .before .before in
     let s = l .before .before .before .before .before .before .before in
+    let q : s .args .m ≡ suc (s .args .m - 1) = omega (arith, l .before .before .before .before .if1 .left) in
     let b = s .pre .1 in
-    let h : s .args .d < s .args .j = omega (arith, b .before, l .before .before .before .before .if1 .left) in
     let x : l .loop .x < getD (s .args .extents .now) (s .args .d) 0 = omega arith in
-    let r = boxSize (s .args .extents .now) (s .args .j - (s .args .d + 1)) (s .args .d + 1) * s .args .inner in (
+    let r = boxSize (s .args .extents .now) (s .args .m - 1) (s .args .d + 1) in (
       search needs,
       search needs,
       omega (arith, c .before .sum-box .ensures .0, add-mul (l .loop .x) 1 r, one-mul r),
-      rw (c .before .sum-box .ensures .1, l .loop .inv .2, l .loop .inv .3) (child-more _ _ _ _ _ _ _ _ _ _ _ h (b .below) (b .size)),
+      rw (c .before .sum-box .ensures .1, l .loop .inv .2, l .loop .inv .3) (sums-more _ _ q _ _ _ _ _ _ _ _),
     )
 
+-- src/sums.rt:88:5
 sum-box-sub-result : (t : ℕ) → sum-box-lts.Need-sub-result (
-  sum-first-reads.Asked,
-  sum-first-reads.Learnt,
-  sum-lines-reads.Asked,
-  sum-lines-reads.Learnt,
-  sum-ranks-reads.Asked,
-  sum-ranks-reads.Learnt,
+  sum-points-reads.Asked,
+  sum-points-reads.Learnt,
+  sum-combs-reads.Asked,
+  sum-combs-reads.Learnt,
   sum-box-below t,
   sum-box.Post,
 ) (sum-box-at t) sum-box.Post sum-box-Inv-loop sum-box-μ-loop
 sum-box-sub-result t c = search needs
 
-sum-box-same-length-4 : (t : ℕ) → sum-box-lts.Need-same-length-4 (
-  sum-first-reads.Asked,
-  sum-first-reads.Learnt,
-  sum-lines-reads.Asked,
-  sum-lines-reads.Learnt,
-  sum-ranks-reads.Asked,
-  sum-ranks-reads.Learnt,
+-- src/sums.rt:45:1
+sum-box-same-length-3 : (t : ℕ) → sum-box-lts.Need-same-length-3 (
+  sum-points-reads.Asked,
+  sum-points-reads.Learnt,
+  sum-combs-reads.Asked,
+  sum-combs-reads.Learnt,
   sum-box-below t,
   sum-box.Post,
 ) (sum-box-at t) sum-box.Post sum-box-Inv-loop sum-box-μ-loop
-sum-box-same-length-4 t c = search needs
+sum-box-same-length-3 t c = search needs
 
-sum-box-returns-4 : (t : ℕ) → sum-box-lts.Need-returns-4 (
-  sum-first-reads.Asked,
-  sum-first-reads.Learnt,
-  sum-lines-reads.Asked,
-  sum-lines-reads.Learnt,
-  sum-ranks-reads.Asked,
-  sum-ranks-reads.Learnt,
+-- src/sums.rt:45:1
+sum-box-returns-3 : (t : ℕ) → sum-box-lts.Need-returns-3 (
+  sum-points-reads.Asked,
+  sum-points-reads.Learnt,
+  sum-combs-reads.Asked,
+  sum-combs-reads.Learnt,
   sum-box-below t,
   sum-box.Post,
 ) (sum-box-at t) sum-box.Post sum-box-Inv-loop sum-box-μ-loop
-sum-box-returns-4 t c =
-    let l = c .before in
+sum-box-returns-3 t c = let l = c .before in
     let s = l .before .before .before .before .before .before .before in
-    let b = s .pre .1 in
-    let h : s .args .d < s .args .j = omega (arith, b .before, l .before .before .before .before .if1 .left) in
+    let q : s .args .m ≡ suc (s .args .m - 1) = omega (arith, l .before .before .before .before .if1 .left) in
     let x : l .loop .x ≡ getD (s .args .extents .now) (s .args .d) 0 = omega arith in
-    rw (child-size _ _ _ h, mul-assoc) (omega (arith, rw x at (l .loop .inv .2)), rw x at (l .loop .inv .3))
+    rw (size-of _ q _) (omega (arith, rw x at (l .loop .inv .2)), rw x at (l .loop .inv .3))
 
 pub +sum-box-spec : {M : Type 1} → statement M
 +sum-box-spec = close μ-sum-box λ t. sum-box-lts.spec (
-  sum-first-reads.Asked,
-  sum-first-reads.Learnt,
-  sum-lines-reads.Asked,
-  sum-lines-reads.Learnt,
-  sum-ranks-reads.Asked,
-  sum-ranks-reads.Learnt,
+  sum-points-reads.Asked,
+  sum-points-reads.Learnt,
+  sum-combs-reads.Asked,
+  sum-combs-reads.Learnt,
   sum-box-below t,
   sum-box.Post,
 )
@@ -431,22 +376,20 @@ pub +sum-box-spec : {M : Type 1} → statement M
     sum-box.Post
     sum-box-Inv-loop
     sum-box-μ-loop
-    (sum-box-sum-first-requires t)
+    (sum-box-sum-points-requires t)
+    (sum-box-mul-sum t)
+    (sum-box-slice-set-from-sum t)
     (sum-box-same-length t)
     (sum-box-returns t)
-    (sum-box-add-if2 t)
-    (sum-box-add-if3 t)
-    (sum-box-sum-lines-requires t)
-    (sum-box-same-length-2 t)
-    (sum-box-returns-2 t)
-    (sum-box-sum-ranks-requires t)
-    (sum-box-same-length-3 t)
-    (sum-box-returns-3 t)
     (sum-box-mul-e t)
     (sum-box-shared-slice-read-e t)
     (sum-box-mul-t t)
     (sum-box-shared-slice-read-t t)
+    (sum-box-sum-combs-requires t)
+    (sum-box-same-length-2 t)
+    (sum-box-returns-2 t)
     (sum-box-loop-holds t)
+    (sum-box-sub-sum-box t)
     (sum-box-add-sum-box t)
     (sum-box-mul-sum-box t)
     (sum-box-add-sum-box-2 t)
@@ -456,5 +399,5 @@ pub +sum-box-spec : {M : Type 1} → statement M
     (sum-box-loop-less t)
     (sum-box-loop-again t)
     (sum-box-sub-result t)
-    (sum-box-same-length-4 t)
-    (sum-box-returns-4 t)
+    (sum-box-same-length-3 t)
+    (sum-box-returns-3 t)
