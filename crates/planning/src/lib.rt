@@ -1,3 +1,1 @@
 pub mod planning;
-pub mod pricing;
-pub mod rule;

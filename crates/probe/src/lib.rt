@@ -23,7 +23,7 @@ pub extern "C" fn tape_scan(tape: &[u8], out: &mut [u64]) -> u8
     ensures { λ r. ⌜ (r ≡ probeRefusal (now (tape .entry)) (length (now (out .entry))))
         × (now (out .exit) ≡ probed (now (tape .entry)) (now (out .entry))) ⌝ }
 {
-    let found = tape::scan(tape);
+    let found = reader::scan(tape);
     if found.refusal != 0 {
         return found.refusal;
     }
@@ -44,5 +44,5 @@ pub extern "C" fn tape_fill(tape: &[u8], slice: &mut [i32]) -> u8
     ensures { λ r. ⌜ (r ≡ readingRefusal (now (tape .entry)) (length (now (slice .entry))))
         × (now (slice .exit) ≡ reading (now (tape .entry)) (now (slice .entry))) ⌝ }
 {
-    tape::fill(tape, slice)
+    reader::fill(tape, slice)
 }

@@ -18,7 +18,7 @@ use Rattle.controller.proofs.campaign_plan.Lts as lts
 use Rattle.controller.proofs.lengths_of.Reads as lengths-of-reads
 use Rattle.controller.proofs.put.Reads as put-reads
 use Rattle.planning.proofs.planning.planning_refusal.Reads as planning-refusal-reads
-use Rattle.planning.proofs.rule.arrange.Reads as arrange-reads
+use Rattle.rules.proofs.rule.arrange.Reads as arrange-reads
 
 -- src/lib.rt:57:9
 returns : tie.Need-returns

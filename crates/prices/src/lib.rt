@@ -1,0 +1,2 @@
+// A plan's prices and regions.
+pub mod pricing;

@@ -1,0 +1,2 @@
+// The planner's order and division.
+pub mod rule;
