@@ -22,3 +22,4 @@ pub mod steps;
 pub mod table;
 pub mod tape;
 pub mod totals;
+pub mod tree;

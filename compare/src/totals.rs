@@ -88,6 +88,21 @@ pub fn direct_sums(lengths: &[u64], points: &[i32], choice: Choice) -> Vec<i64> 
     cells
 }
 
+/// The same for large arrays: what the later axes add to a point's cell is worked out
+/// once for all rows of them, and what the earlier axes add once for each row.
+pub fn direct_sums_by_rows(lengths: &[u64], points: &[i32], choice: Choice) -> Vec<i64> {
+    let row: u64 = lengths[lengths.len() / 2..].iter().product();
+    let within: Vec<usize> = (0..row).map(|number| cell_of(lengths, choice, number)).collect();
+    let mut cells = vec![0; choice::cells(lengths, choice) as usize];
+    for (number, points) in points.chunks_exact(within.len()).enumerate() {
+        let first = cell_of(lengths, choice, number as u64 * row);
+        for (&point, cell) in points.iter().zip(&within) {
+            cells[first + cell] += i64::from(point);
+        }
+    }
+    cells
+}
+
 /// The cell of a choice that takes the point of this number.
 fn cell_of(lengths: &[u64], choice: Choice, number: u64) -> usize {
     let (mut rest, mut stride, mut cell) = (number, 1, 0);

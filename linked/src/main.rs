@@ -1,6 +1,11 @@
 //! The proved engine through its static libraries, beside the independent engine.
 
+mod engine;
+mod lawful;
+mod memory;
 mod plans;
+mod runs;
+mod slots;
 mod steps;
 mod tapes;
 
@@ -12,7 +17,8 @@ const USAGE: &str = "\
 usage: linked plans SEED N      compare planning on every small shape, N random requests and every refusal
        linked tapes SEED N      compare reading on N made tapes, and on tapes damaged at every byte
        linked steps SEED N      compare T, every step and held on every small plan, N random plans and every refusal
-       linked bench             time planning, reading and steps, proved and independent, in one run
+       linked memory SEED N     compare step, view and gather on lent memory: every small plan, N random plans, large ones and every refusal
+       linked bench             time planning, reading, steps and whole runs, proved and independent, in one run
 ";
 
 fn main() -> ExitCode {
@@ -28,10 +34,14 @@ fn main() -> ExitCode {
         ["steps", seed, n] => {
             seed.parse().ok().zip(n.parse().ok()).map(|(s, n)| steps::check(s, n))
         }
+        ["memory", seed, n] => {
+            seed.parse().ok().zip(n.parse().ok()).map(|(s, n)| memory::check(s, n))
+        }
         ["bench"] => {
             plans::bench();
             tapes::bench();
             steps::bench();
+            runs::bench();
             return ExitCode::SUCCESS;
         }
         _ => None,

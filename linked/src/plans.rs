@@ -109,8 +109,13 @@ fn least(count: &mut Count, lengths: &[u64], p: u8) {
 
 /// One to eight axes with up to 2^24 points, and a p that often has room.
 pub fn request(random: &mut Random) -> (Vec<u64>, u8) {
+    let lengths = shape(random, 24);
+    (lengths, random.below(12) as u8)
+}
+
+/// One to eight axes with up to 2^room points.
+pub fn shape(random: &mut Random, mut room: u64) -> Vec<u64> {
     let axes = random.between(1, 8);
-    let mut room = 24;
     let mut lengths = Vec::new();
     for _ in 0..axes {
         let bits = random.between(0, room.min(16));
@@ -120,7 +125,7 @@ pub fn request(random: &mut Random) -> (Vec<u64>, u8) {
     for i in (1..lengths.len()).rev() {
         lengths.swap(i, random.index(i + 1));
     }
-    (lengths, random.below(12) as u8)
+    lengths
 }
 
 /// Every refusal, alone and with others due, and result slices of wrong length.

@@ -6,12 +6,14 @@ use std::hint::black_box;
 use compare::board;
 use compare::choice;
 use compare::held::Held;
-use compare::judge::{self, Refusal};
+use compare::judge;
 use compare::plan::{planned, Plan};
 use compare::random::Random;
-use compare::steps::{self, Step, Transfer};
+use compare::steps::{self, Step};
 
+use crate::lawful::{every, fitting, lawful, most_planned, most_steps};
 use crate::plans::request;
+use crate::slots::{judged, spelled, told, Slots};
 use crate::{nanoseconds, Count};
 
 extern "C" {
@@ -42,19 +44,6 @@ extern "C" {
         out: *mut u64,
         out_len: usize,
     ) -> u8;
-}
-
-const SLOTS: usize = 8;
-const ORDER: usize = 2;
-const EXPONENTS: usize = ORDER + SLOTS;
-const SMALL: usize = EXPONENTS + SLOTS;
-
-/// A plan as the library takes it, or what damage makes of one: axes, p, the order's
-/// slots and the exponents'; and the lengths' slots.
-#[derive(Clone, Debug)]
-struct Slots {
-    small: Vec<u8>,
-    lengths: Vec<u32>,
 }
 
 #[derive(Clone, Copy, Debug)]
@@ -127,58 +116,6 @@ impl Rack<'_> {
     }
 }
 
-fn told(step: Option<&Step>) -> [u64; 5] {
-    match step {
-        Some(&Step::Expand(choice)) => [1, 0, 0, u64::from(choice), 0],
-        Some(&Step::Transfer(Transfer { sender, receiver, choice, values })) => {
-            [2, sender, receiver, u64::from(choice), values]
-        }
-        Some(&Step::Finish(choice)) => [3, 0, 0, u64::from(choice), 0],
-        None => [4, 0, 0, 0, 0],
-    }
-}
-
-fn spelled(plan: &Plan) -> Slots {
-    let mut small = vec![0; SMALL];
-    let mut lengths = vec![0; SLOTS];
-    small[0] = plan.axes() as u8;
-    small[1] = plan.p as u8;
-    for (i, &axis) in plan.order.iter().enumerate() {
-        small[ORDER + i] = axis as u8;
-        small[EXPONENTS + i] = plan.exponents[i] as u8;
-        lengths[i] = plan.lengths[i] as u32;
-    }
-    Slots { small, lengths }
-}
-
-/// The plan that any slots hold, or its refusal.
-fn judged(slots: &Slots) -> Result<Plan, u8> {
-    if slots.small.len() != SMALL || slots.lengths.len() != SLOTS {
-        return Err(3);
-    }
-    let axes = usize::from(slots.small[0]);
-    if axes > SLOTS {
-        return Err(3);
-    }
-    let (lengths, past_lengths) = slots.lengths.split_at(axes);
-    let (order, past_order) = slots.small[ORDER..EXPONENTS].split_at(axes);
-    let (exponents, past_exponents) = slots.small[EXPONENTS..].split_at(axes);
-    let past = past_order.iter().chain(past_exponents).any(|&slot| slot != 0);
-    let slots_used = past || past_lengths.iter().any(|&slot| slot != 0);
-    let plan = Plan {
-        lengths: lengths.iter().map(|&length| u64::from(length)).collect(),
-        order: order.iter().map(|&axis| usize::from(axis)).collect(),
-        exponents: exponents.iter().map(|&k| u32::from(k)).collect(),
-        p: u32::from(slots.small[1]),
-    };
-    match judge::plan(&plan) {
-        // The independent plan has no slots past its axes. Line 8 stands before 9.
-        Ok(()) | Err(Refusal(9)) if slots_used => Err(8),
-        Ok(()) => Ok(plan),
-        Err(Refusal(number)) => Err(number),
-    }
-}
-
 /// A call with a slice of some length, and the cells around it.
 fn expect(count: &mut Count, slots: &Slots, call: Call, len: usize, due: Due) {
     let before: [u64; 8] = std::array::from_fn(|i| 0xa5a5_0000_0000_005a ^ i as u64);
@@ -201,7 +138,9 @@ fn expect(count: &mut Count, slots: &Slots, call: Call, len: usize, due: Due) {
 pub fn check(seed: u64, n: u64) -> Count {
     let mut count = Count::default();
     let mut random = Random::new(seed);
-    small_plans(&mut count, &mut random);
+    for plan in every(3, 4) {
+        whole(&mut count, &mut random, &plan);
+    }
     for index in 0..n {
         let (lengths, p) = request(&mut random);
         let plan = match index % 2 {
@@ -213,25 +152,6 @@ pub fn check(seed: u64, n: u64) -> Count {
     largest(&mut count, &mut random);
     refusals(&mut count, &mut random);
     count
-}
-
-/// The largest p up to the given one that the lengths and line 6 admit.
-fn fitting(lengths: &[u64], p: u8) -> u32 {
-    let room = lengths.iter().map(|length| length.ilog2()).sum();
-    u32::from(p).min(room).min(judge::HIGHEST_P)
-}
-
-/// A plan of any order, and p halvings along any axes that admit them.
-fn lawful(random: &mut Random, lengths: &[u64], p: u32) -> Plan {
-    let mut order: Vec<usize> = (0..lengths.len()).collect();
-    random.shuffle(&mut order);
-    let mut exponents = vec![0; lengths.len()];
-    for _ in 0..p {
-        let may_rise = |&axis: &usize| judge::fits(exponents[axis] + 1, lengths[axis]);
-        let axes: Vec<usize> = (0..lengths.len()).filter(may_rise).collect();
-        exponents[random.pick(&axes)] += 1;
-    }
-    Plan { lengths: lengths.to_vec(), order, exponents, p }
 }
 
 /// T, every step of the list, the positions past it, and what boards hold.
@@ -274,53 +194,6 @@ fn some_board(random: &mut Random, plan: &Plan) -> u32 {
     (board - labels.sum::<u64>()) as u32
 }
 
-/// Every plan of one to three axes up to length 4: all orders, all exponents.
-fn small_plans(count: &mut Count, random: &mut Random) {
-    for axes in 1..=3u32 {
-        for number in 0..4u64.pow(axes) {
-            let lengths: Vec<u64> = (0..axes).map(|i| 1 + number / 4u64.pow(i) % 4).collect();
-            for code in 0..3u32.pow(axes) {
-                let exponents: Vec<u32> = (0..axes).map(|i| code / 3u32.pow(i) % 3).collect();
-                for order in orders(axes as usize) {
-                    let (lengths, exponents) = (lengths.clone(), exponents.clone());
-                    let p = exponents.iter().sum();
-                    let plan = Plan { lengths, order, exponents, p };
-                    if judge::plan(&plan).is_ok() {
-                        whole(count, random, &plan);
-                    }
-                }
-            }
-        }
-    }
-}
-
-fn orders(axes: usize) -> Vec<Vec<usize>> {
-    if axes == 0 {
-        return vec![Vec::new()];
-    }
-    let mut longer = Vec::new();
-    for order in orders(axes - 1) {
-        for place in 0..axes {
-            let mut order = order.clone();
-            order.insert(place, axes - 1);
-            longer.push(order);
-        }
-    }
-    longer
-}
-
-/// The planner's plan with the most steps.
-fn most_planned() -> Plan {
-    planned(&[8, 2, 2, 2, 2, 2, 2, 2], 10).expect("ten halvings")
-}
-
-/// The most steps of all lawful plans: all portions on the axis that comes last.
-fn most_steps() -> Plan {
-    let lengths = vec![1_024, 1, 1, 1, 1, 1, 1, 1];
-    let exponents = vec![10, 0, 0, 0, 0, 0, 0, 0];
-    Plan { lengths, order: (1..8).chain([0]).collect(), exponents, p: 10 }
-}
-
 /// The most steps, and the most points.
 fn largest(count: &mut Count, random: &mut Random) {
     for (plan, total) in [(most_planned(), 19_810), (most_steps(), 131_327)] {
@@ -356,7 +229,9 @@ fn refusals(count: &mut Count, random: &mut Random) {
         let lengths: Vec<u64> = (0..axes).map(|_| random.between(1, 4)).collect();
         let p = fitting(&lengths, random.below(4) as u8);
         let plan = lawful(random, &lengths, p);
-        damaged(count, random, &spelled(&plan));
+        for slots in spelled(&plan).damaged(random) {
+            any(count, random, &slots);
+        }
     }
 }
 
@@ -365,20 +240,7 @@ fn lines(count: &mut Count, chosen: &[u8]) {
     let plan = planned(&[4, 3, 2], 2).expect("two halvings");
     let rack = Rack::new(&plan);
     let mut slots = spelled(&plan);
-    for line in chosen {
-        match line {
-            3 => slots.small[0] = 9,
-            4 => slots.lengths[1] = 65_536,
-            5 => slots.lengths[0] = 65_535,
-            6 => slots.small[1] = 11,
-            8 => slots.small[ORDER] = slots.small[ORDER + 1],
-            9 => slots.small[EXPONENTS + 2] = 255,
-            _ => {}
-        }
-    }
-    if chosen.contains(&5) {
-        slots.lengths[2] = 65_535;
-    }
+    chosen.iter().for_each(|&line| slots.break_line(line));
     let at = if chosen.contains(&12) { rack.total() + 1 } else { rack.total() };
     for call in [Call::Count, Call::Step(at), Call::Held(at, 1)] {
         let of_call = |&&line: &&u8| line != 12 || matches!(call, Call::Held(..));
@@ -386,42 +248,6 @@ fn lines(count: &mut Count, chosen: &[u8]) {
         let len = call.cells() + usize::from(chosen.contains(&13));
         let due = first.map_or_else(|| rack.due(call), |&line| Err(line));
         expect(count, &slots, call, len, due);
-    }
-}
-
-/// Each slot changed, several changed at once, and slices of every other length.
-fn damaged(count: &mut Count, random: &mut Random, slots: &Slots) {
-    for at in 0..SMALL {
-        for byte in [0, 1, 2, 7, 8, 9, 10, 11, 31, 32, 64, 255] {
-            let mut changed = slots.clone();
-            changed.small[at] = byte;
-            any(count, random, &changed);
-        }
-    }
-    for at in 0..SLOTS {
-        for length in [0, 1, 3, 65_535, 65_536, 1 << 24, u32::MAX] {
-            let mut changed = slots.clone();
-            changed.lengths[at] = length;
-            any(count, random, &changed);
-        }
-    }
-    for _ in 0..200 {
-        let mut changed = slots.clone();
-        for _ in 0..random.between(2, 4) {
-            let number = random.next();
-            match random.below(4) {
-                0 => changed.lengths[random.index(SLOTS)] = number as u32 >> random.below(32),
-                _ => changed.small[random.index(SMALL)] = number as u8 >> random.below(8),
-            }
-        }
-        any(count, random, &changed);
-    }
-    for len in 0..=SMALL + 2 {
-        let mut changed = slots.clone();
-        changed.small.resize(len, 0);
-        any(count, random, &changed);
-        changed.lengths.resize(random.index(SLOTS + 3), 0);
-        any(count, random, &changed);
     }
 }
 

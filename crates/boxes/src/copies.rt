@@ -63,7 +63,7 @@ fn put_plane(
     e * f
 }
 
-// Copies the cells from src on to a box of the result, m axes from axis d on. Gives their number.
+// Copies the cells from src on to a box of the result, m axes from axis d on; a box of none is one cell. Gives their number.
 pub fn put_box(
     result: &mut [i64],
     work: &[i64],
@@ -74,10 +74,15 @@ pub fn put_box(
     at: usize,
     src: usize,
 ) -> usize
-    requires { ⌜ (0 < m) × Boxed (length (now work)) (length (now result)) (now extents) (now strides) m d at src ⌝ }
+    requires { ⌜ Boxed (length (now work)) (length (now result)) (now extents) (now strides) m d at src ⌝ }
     ensures { λ r. ⌜ (r ≡ boxSize (now (extents .entry)) m d) × (now (result .exit) ≡ placed (now (result .entry)) (boxSize (now (extents .entry)) m d)
         (boxPlace (now (extents .entry)) (now (strides .entry)) m d at) (from (now (work .entry)) src)) ⌝ }
 {
+    if m == 0 {
+        let x = work[src];
+        result[at] = x;
+        return 1;
+    }
     let e = extents[d];
     let t = strides[d];
     if m == 1 {
@@ -89,16 +94,8 @@ pub fn put_box(
     }
     let mut next = src;
     for x in 0..e {
-        let r = put_box(
-            result,
-            work,
-            extents,
-            strides,
-            m - 1,
-            d + 1,
-            at + x * t,
-            next,
-        );
+        let first = at + x * t;
+        let r = put_box(result, work, extents, strides, m - 1, d + 1, first, next);
         next = next + r;
     }
     next - src

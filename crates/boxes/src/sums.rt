@@ -21,8 +21,8 @@ fn sum_points(array: &[i32], at: usize, n: usize, step: usize) -> i64
     sum
 }
 
-// The sums of n rows of e points: the points of a sum stand t apart, the sums u apart.
-fn sum_combs(
+// n such sums, one by one.
+fn sum_each(
     work: &mut [i64],
     array: &[i32],
     at: usize,
@@ -38,6 +38,54 @@ fn sum_combs(
     for i in 0..n {
         let sum = sum_points(array, at + i * u, e, t);
         work[dst + i] = sum;
+    }
+}
+
+// Four sums at once, each in a register: the e points of a sum stand t apart, the sums u apart.
+fn sum_four(work: &mut [i64], array: &[i32], at: usize, u: usize, t: usize, e: usize, dst: usize)
+    requires { ⌜ (at + 3 * u + e * t < length (now array) + t) × (0 < e) × (dst + 4 ≤ length (now work)) ⌝ }
+    ensures { λ _. ⌜ now (work .exit) ≡ written (now (work .entry)) dst 4 (combs (now (array .entry)) at u e t) ⌝ }
+{
+    let v = u + u;
+    let w = v + u;
+    let mut a: i64 = 0;
+    let mut b: i64 = 0;
+    let mut c: i64 = 0;
+    let mut d: i64 = 0;
+    for m in 0..e {
+        let p = at + m * t;
+        a = wrapping_add(a, array[p] as i64);
+        b = wrapping_add(b, array[p + u] as i64);
+        c = wrapping_add(c, array[p + v] as i64);
+        d = wrapping_add(d, array[p + w] as i64);
+    }
+    work[dst] = a;
+    work[dst + 1] = b;
+    work[dst + 2] = c;
+    work[dst + 3] = d;
+}
+
+// The same by fours, as far as they go.
+fn sum_combs(
+    work: &mut [i64],
+    array: &[i32],
+    at: usize,
+    u: usize,
+    n: usize,
+    t: usize,
+    e: usize,
+    dst: usize,
+)
+    requires { ⌜ (at + n * u + e * t < length (now array) + u + t) × (0 < e) × (dst + n ≤ length (now work)) ⌝ }
+    ensures { λ _. ⌜ now (work .exit) ≡ written (now (work .entry)) dst n (combs (now (array .entry)) at u e t) ⌝ }
+{
+    let mut i: usize = 0;
+    while 4 <= n - i {
+        sum_four(work, array, at + i * u, u, t, e, dst + i);
+        i += 4;
+    }
+    if i < n {
+        sum_each(work, array, at + i * u, u, n - i, t, e, dst + i);
     }
 }
 

@@ -6,3 +6,5 @@ pub mod Offsets
 pub mod Parts
 pub mod Putting
 pub mod Summing
+pub mod Merging
+pub mod Combs

@@ -5,7 +5,7 @@ use mathlib.Core.Logic.{inr}
 use mathlib.Core.List.{List}
 use native.Mathlib.Omega.{arith}
 use native.Mathlib.Nat.{add-zero, mul-zero, zero-mul, mul-one, add-mul, one-mul}
-use lib.ListN.{getD}
+use lib.ListN.{getD, set}
 use lib.IntN.{ℤ, pos, _+ℤ_}
 use Rattle.cube.specs.Boxes.{product}
 use Rattle.cube.proofs.Boxing.{row-of, rest-of}
@@ -124,6 +124,21 @@ module _ (e t : List ℕ) {k m : ℕ} (q : m ≡ suc k) (d : ℕ) where
   -- where part x begins
   pub part-reads : {a at : ℕ} → InArray a e t m d at → (x : ℕ) → x < getD e d 0 → at + x * getD t d 0 < a
   part-reads b x h = let p = part-within b x h in omega (arith, p .places 0 (p .some))
+
+-- a box of no axes is one cell
+pub cell-fits : {w a : ℕ} {e t : List ℕ} {m d at dst : ℕ} → m ≡ 0 → Boxed w a e t m d at dst → (at < a) × (dst < w)
+unfolding boxSize product offset
+cell-fits {w} {a} {e} {t} {m} {d} {at} {dst} q b =
+    let c : Boxed w a e t 0 d at dst = rw q at b in
+    (omega (arith, c .within .places 0 (c .within .some)), omega (arith, c .fits))
+
+pub cell-size : (e : List ℕ) (m d : ℕ) → m ≡ 0 → 1 ≡ boxSize e m d
+unfolding boxSize product
+cell-size e m d q = rw q
+
+pub cell-put : (w a : List ℤ) (e t : List ℕ) (m d at src : ℕ) → m ≡ 0 → set w at (getD a src (pos 0)) ≡ placed w (boxSize e m d) (boxPlace e t m d at) (from a src)
+unfolding boxSize product boxPlace offset placed from
+cell-put w a e t m d at src q = rw (q, add-zero at, add-zero src)
 
 -- a box of one axis is a row
 pub row-fits-box : {w a : ℕ} {e t : List ℕ} {m d at dst : ℕ} → m ≡ 1 → Boxed w a e t m d at dst → (at + getD e d 0 * getD t d 0 < a + getD t d 0) × (dst + getD e d 0 ≤ w)

@@ -75,14 +75,6 @@ pub one-sum : (w a : List ℤ) (e t : List ℕ) (m d at n step dst : ℕ) → m 
 unfolding boxSize product offset written placed boxSums boxPlace
 one-sum w a e t m d at n step dst q = rw (q, add-zero) (ap (λ (p : ℕ). set w dst (wrapped (sumZ n (every a p step)))) (sym (add-zero at)))
 
-pub one-size : (e : List ℕ) (m d : ℕ) → m ≡ 0 → 1 ≡ boxSize e m d
-unfolding boxSize product
-one-size e m d q = rw q refl
-
-pub row-count : (e : List ℕ) (m d : ℕ) → m ≡ 1 → getD e d 0 ≡ boxSize e m d
-unfolding boxSize product
-row-count e m d q = rw (q, mul-one) refl
-
 -- a merged box has the same sums
 module _ {e t e′ t′ : List ℕ} {m d m′ d′ : ℕ} (s : Same e t m d e′ t′ m′ d′) where
   pub sums-same : {w a at n step dst : ℕ} → d′ + m′ ≤ length e′ → d′ + m′ ≤ length t′ → Sums w a e t m d at n step dst → Sums w a e′ t′ m′ d′ at n step dst

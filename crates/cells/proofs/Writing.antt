@@ -1,5 +1,5 @@
 -- Laws of a slice into which values were written.
-use Prim.Native.Nat.{ℕ, _≤_, _<_, _-_, _+_, _*_, _/_, _%_}
+use Prim.Native.Nat.{ℕ, _≤_, _<_, _-_, _+_, _*_}
 use mathlib.Core.Path.{_≡_, sym, _∙_, refl, ap, ap₂}
 use mathlib.Core.Logic.{_⊎_, inl, inr}
 use mathlib.Core.Bool.{Bool, true, false, _&&_}
@@ -155,12 +155,6 @@ block-more w at o e n p q h = rw (add-mul, one-mul) (joined w at (o * n) n (axis
 pub rows-start : (w : List ℤ) (at n : ℕ) (p : ℕ → ℤ) → at + n ≤ length w → written w at n zeros ≡ written (written w at n zeros) at n (rowSums p 0 n)
 rows-start w at n p b = no-rows w at n p ∙ sym (over w at n zeros (rowSums p 0 n) b)
 
--- the rows' own cells were there before the clearing
-pub rows-end : (w : List ℤ) (a at e n : ℕ) → at + n ≤ length w → a + e * n ≤ at
-    → written (written w at n zeros) at n (rowSums (from (written w at n zeros) a) e n) ≡ written w at n (rowSums (from w a) e n)
-unfolding rowSums from
-rows-end w a at e n b h = over w at n zeros _ b ∙ same w at n _ _ (λ i k. ap wrapped (sum-cong e (λ m q. outside w at n zeros _ (inl (omega (arith, row-fits m e n q))))))
-
 -- counted from two places
 pub from-from : (w : List ℤ) (a b i : ℕ) → from w (a + b) i ≡ from w a (b + i)
 unfolding from
@@ -171,32 +165,7 @@ pub left-of : (w : List ℤ) (at n : ℕ) (f : ℕ → ℤ) (a b i : ℕ) → a 
 unfolding from
 left-of w at n f a b i h = from-from (written w at n f) a b i ∙ outside w at n f (a + (b + i)) (inl h)
 
--- the sum down a column of rows that stand left of the cells written
-pub column-cell : (w : List ℤ) (a at e n i : ℕ) (f : ℕ → ℤ) → a + e * n ≤ at → i < n
-    → wrapped (sumZ e (every (written w at i f) (a + i) n)) ≡ rowSums (from w a) e n i
-unfolding rowSums every from
-column-cell w a at e n i f b h = ap wrapped (sum-cong e (λ m k. cell m k))
-  where
-    cell : (m : ℕ) → m < e → getD (written w at i f) (a + i + m * n) (pos 0) ≡ getD w (a + (m * n + i)) (pos 0)
-    cell m k =
-        let r = row-fits m e n k in
-        let q : a + i + m * n ≡ a + (m * n + i) = omega arith in
-        rw q (outside w at i f (a + (m * n + i)) (inl (omega arith)))
-
 -- every single cell
 pub every-one : (w a : List ℤ) (src step at n : ℕ) → step ≡ 1 → written w at n (addedTo w at (from a src)) ≡ written w at n (addedTo w at (every a src step))
 unfolding addedTo from every
 every-one w a src step at n q = rw q (same w at n _ _ (λ i h. let e : i ≡ i * 1 = omega arith in ap (λ (k : ℕ). wrapped (getD w (at + i) (pos 0) +ℤ getD a (src + k) (pos 0))) e))
-
--- the child's cell o where the last axis is summed out, from a run left of the cells written
-pub run-cell : (w : List ℤ) (a at e o : ℕ) (f : ℕ → ℤ) → a + (o * e + e) ≤ at → wrapped (sumZ e (every (written w at o f) (a + o * e) 1)) ≡ axisSums (from w a) e 1 o
-unfolding axisSums every from
-run-cell w a at e o f b =
-    let d : o / 1 ≡ o = omega arith in
-    let r : o % 1 ≡ 0 = omega arith in
-    rw (d, r) (ap wrapped (sum-cong e (λ m k. cell m k)))
-  where
-    cell : (m : ℕ) → m < e → getD (written w at o f) (a + o * e + m * 1) (pos 0) ≡ getD w (a + ((o * e + m) * 1 + 0)) (pos 0)
-    cell m k =
-        let q : a + o * e + m * 1 ≡ a + ((o * e + m) * 1 + 0) = omega arith in
-        rw q (outside w at o f (a + ((o * e + m) * 1 + 0)) (inl (omega arith)))

@@ -70,3 +70,20 @@ pub record Merged (e t e′ t′ : List ℕ) (n d : ℕ) : Type 0 where
   pub extents : length e′ ≡ length e
   pub strides : length t′ ≡ length t
   pub same : Same e t n 0 e′ t′ (n - d) d
+
+-- one axis at a time: the box of the axes from d up to n, whose first axis is merged into the next one, left out or kept
+pub record FirstAxis (e t : List ℕ) (n d : ℕ) : Type 0 where
+  pub below : d < n
+  pub extents : n ≤ length e
+  pub strides : n ≤ length t
+  pub some : 0 < boxSize e (n - d) d
+  pub most : boxSize e (n - d) d ≤ pointLimit
+  pub near : (i : ℕ) → i < n → getD t i 0 ≤ pointLimit
+
+-- the same box, as that of the axes from k up to n; only an extent after axis d has changed
+pub record FirstMerged (e t e′ : List ℕ) (n d k : ℕ) : Type 0 where
+  pub least : d ≤ k
+  pub axes : k ≤ n
+  pub extents : length e′ ≡ length e
+  pub before : (i : ℕ) → i ≤ d → getD e′ i 0 ≡ getD e i 0
+  pub same : Same e t (n - d) d e′ t (n - k) k

@@ -4,7 +4,7 @@ ghost use Prim.Native.Nat.{_+_, _*_, _≤_, _<_};
 ghost use lib.ListN.{length};
 ghost use Rattle.cube.specs.Boxes.{sumZ};
 ghost use Rattle.cells.specs.Wrapped.{wrapped};
-ghost use Rattle.cells.specs.Rows.{from, every, written, zeros, addAt, addedTo, axisSums, rowSums, Apart};
+ghost use Rattle.cells.specs.Rows.{from, every, written, zeros, addAt, addedTo, axisSums, combs, Apart};
 use crate::wrapping::wrapping_add;
 
 // Clears n cells.
@@ -92,37 +92,53 @@ fn sum_every(work: &[i64], at: usize, n: usize, step: usize) -> i64
     sum
 }
 
-// Sums e rows of n cells into one.
-fn sum_rows(work: &mut [i64], src: usize, dst: usize, e: usize, n: usize)
-    requires { ⌜ (src + e * n ≤ dst) × (dst + n ≤ length (now work)) ⌝ }
-    ensures { λ _. ⌜ now (work .exit) ≡ written (now (work .entry)) dst n (rowSums (from (now (work .entry)) src) e n) ⌝ }
+// Four sums at once, each in a register: the e cells of a sum stand t apart, the sums u apart.
+fn sum_four(work: &mut [i64], at: usize, u: usize, t: usize, e: usize, dst: usize)
+    requires { ⌜ (at + 3 * u ≤ length (now work)) × (at + 3 * u + e * t < length (now work) + t) × (dst + 4 ≤ length (now work)) ⌝ }
+    ensures { λ _. ⌜ now (work .exit) ≡ written (now (work .entry)) dst 4 (combs (now (work .entry)) at u e t) ⌝ }
 {
-    clear(work, dst, n);
+    let v = u + u;
+    let w = v + u;
+    let mut a: i64 = 0;
+    let mut b: i64 = 0;
+    let mut c: i64 = 0;
+    let mut d: i64 = 0;
     for m in 0..e {
-        add_row(work, src + m * n, dst, n);
+        let p = at + m * t;
+        a = wrapping_add(a, work[p]);
+        b = wrapping_add(b, work[p + u]);
+        c = wrapping_add(c, work[p + v]);
+        d = wrapping_add(d, work[p + w]);
     }
+    work[dst] = a;
+    work[dst + 1] = b;
+    work[dst + 2] = c;
+    work[dst + 3] = d;
 }
 
-// The same cell by cell: faster for short rows.
-fn sum_columns(work: &mut [i64], src: usize, dst: usize, e: usize, n: usize)
-    requires { ⌜ (src + e * n ≤ dst) × (dst + n ≤ length (now work)) ⌝ }
-    ensures { λ _. ⌜ now (work .exit) ≡ written (now (work .entry)) dst n (rowSums (from (now (work .entry)) src) e n) ⌝ }
+// n such sums, one by one; all that is read stands left of dst. The first condition is for e = 0, where nothing is read.
+fn sum_each(work: &mut [i64], at: usize, u: usize, n: usize, t: usize, e: usize, dst: usize)
+    requires { ⌜ (at + n * u ≤ length (now work) + u) × (at + n * u + e * t < dst + u + t) × (dst + n ≤ length (now work)) ⌝ }
+    ensures { λ _. ⌜ now (work .exit) ≡ written (now (work .entry)) dst n (combs (now (work .entry)) at u e t) ⌝ }
 {
     for i in 0..n {
-        let sum = sum_every(&*work, src + i, e, n);
+        let sum = sum_every(&*work, at + i * u, e, t);
         work[dst + i] = sum;
     }
 }
 
-// Sums e rows of n cells into one, by whichever way is faster.
-fn sum_block(work: &mut [i64], src: usize, dst: usize, e: usize, n: usize)
-    requires { ⌜ (src + e * n ≤ dst) × (dst + n ≤ length (now work)) ⌝ }
-    ensures { λ _. ⌜ now (work .exit) ≡ written (now (work .entry)) dst n (rowSums (from (now (work .entry)) src) e n) ⌝ }
+// The same by fours, as far as they go.
+fn sum_combs(work: &mut [i64], at: usize, u: usize, n: usize, t: usize, e: usize, dst: usize)
+    requires { ⌜ (at + n * u ≤ length (now work) + u) × (at + n * u + e * t < dst + u + t) × (dst + n ≤ length (now work)) ⌝ }
+    ensures { λ _. ⌜ now (work .exit) ≡ written (now (work .entry)) dst n (combs (now (work .entry)) at u e t) ⌝ }
 {
-    if n < 8 {
-        sum_columns(work, src, dst, e, n);
-    } else {
-        sum_rows(work, src, dst, e, n);
+    let mut i: usize = 0;
+    while 4 <= n - i {
+        sum_four(work, at + i * u, u, t, e, dst + i);
+        i += 4;
+    }
+    if i < n {
+        sum_each(work, at + i * u, u, n - i, t, e, dst + i);
     }
 }
 
@@ -132,18 +148,15 @@ fn sum_blocks(work: &mut [i64], src: usize, dst: usize, outer: usize, e: usize, 
     ensures { λ _. ⌜ now (work .exit) ≡ written (now (work .entry)) dst (outer * inner) (axisSums (from (now (work .entry)) src) e inner) ⌝ }
 {
     for o in 0..outer {
-        sum_block(work, src + o * (e * inner), dst + o * inner, e, inner);
-    }
-}
-
-// Sums out the last axis of (outer, e) cells, each sum in a register.
-fn sum_runs(work: &mut [i64], src: usize, dst: usize, outer: usize, e: usize)
-    requires { ⌜ (src + outer * e ≤ dst) × (dst + outer ≤ length (now work)) ⌝ }
-    ensures { λ _. ⌜ now (work .exit) ≡ written (now (work .entry)) dst outer (axisSums (from (now (work .entry)) src) e 1) ⌝ }
-{
-    for o in 0..outer {
-        let sum = sum_every(&*work, src + o * e, e, 1);
-        work[dst + o] = sum;
+        sum_combs(
+            work,
+            src + o * (e * inner),
+            1,
+            inner,
+            inner,
+            e,
+            dst + o * inner,
+        );
     }
 }
 
@@ -153,7 +166,7 @@ pub fn sum_axis(work: &mut [i64], src: usize, dst: usize, outer: usize, e: usize
     ensures { λ _. ⌜ now (work .exit) ≡ written (now (work .entry)) dst (outer * inner) (axisSums (from (now (work .entry)) src) e inner) ⌝ }
 {
     if inner == 1 {
-        sum_runs(work, src, dst, outer, e);
+        sum_combs(work, src, e, outer, 1, e, dst);
     } else {
         sum_blocks(work, src, dst, outer, e, inner);
     }

@@ -10,6 +10,7 @@ use lib.Dec.{eqb, ltb}
 use lib.ListN.{length, getD, take}
 use lib.IntN.{ℤ}
 use Rattle.cube.specs.Boxes.{pick, sumN}
+use Rattle.cube.specs.Limits.{pointLimit}
 use Rattle.cube.specs.Choices as Choices
 use Rattle.cube.specs.Choices.{keeps, lengthOf, keptLength}
 use Rattle.cube.proofs.Boxing.{product-cong}
@@ -28,9 +29,9 @@ use Rattle.boards.specs.Held.{finishedAt}
 use Rattle.boards.specs.Answers.{pastEnd}
 use Rattle.boards.proofs.Refusing.{plan-due, plan-passed}
 use Rattle.boards.proofs.Tallied.{lawful, axes-same}
-use Rattle.boards.proofs.Planned.{summed-has, own-board, set-down}
+use Rattle.boards.proofs.Planned.{summed-has, own-board, set-down, cells-small}
 use Rattle.cells.specs.Rows.{from, placed}
-use Rattle.cells.specs.Strides.{boxSize, boxPlace, Boxed}
+use Rattle.cells.specs.Strides.{boxSize, boxPlace, Boxed, Mergeable}
 use Rattle.memory.specs.Memory.{read}
 use Rattle.memory.specs.Gather.{gathered}
 use Rattle.memory.specs.Entries.{workCells, smallArea, noFinish, wrongResult, gatherChecks, gatherRefusal, gatherOf, gatherOr, gathering}
@@ -38,6 +39,7 @@ use Rattle.memory.specs.Copies.{cellStride, oneBoard, boardsTo, Copying}
 use Rattle.memory.proofs.Refusing.{area-boards}
 use Rattle.memory.proofs.Totals.{keeps-order}
 use Rattle.memory.proofs.Shown.{cells-room}
+use Rattle.memory.proofs.Strided.{stride-small}
 use Rattle.memory.proofs.Copied as Copied
 use Rattle.memory.proofs.Copied.{LeadBox}
 
@@ -58,6 +60,29 @@ module _ (q : Plan) (ok : Accepted q) (mask : ℕ) where
           extents = λ d h. es d (omega arith) ∙ ap (λ b. box (planGrid q) (summedIn q mask) b d) (own-board q ok b on labels own);
           strides = λ d h. ts d (omega arith);
           first = p ∙ ap (λ n. sumN n (λ d. planGrid q .start d (getD labels d 0) * cellStride (planGrid q) (summedIn q mask) d)) (sym x) ∙ sumN-cong (planGrid q .axes) (λ d h. ap (λ l. planGrid q .start d l * cellStride (planGrid q) (summedIn q mask) d) (own d (omega arith)));
+        }
+
+    few-cells : cells (planGrid q) (summedIn q mask) b ≤ pointLimit
+    unfolding cells
+    few-cells =
+        let x = axes-same q ok in
+        let z : planGrid q .axes - 0 ≡ planGrid q .axes = omega arith in
+        rw z at (cells-small q ok (summedIn q mask) b 0 (planGrid q .axes) on (omega arith) (omega arith))
+
+    -- the box has cells, few of them, and its strides are small: its axes may be merged
+    pub lead-mergeable : length E ≡ 8 → length T ≡ 8 → q .axes ≤ 8 → Mergeable E T (q .axes)
+    lead-mergeable le lt few =
+        let x = axes-same q ok in
+        let within = Copied.lead-in (listsOf q) (ok .sound) (summedIn q mask) b on t lead-box _ refl (omega arith) (omega arith) in
+        let size = Copied.box-size (listsOf q) (ok .sound) (summedIn q mask) b on t lead-box in
+        let y : boxSize E (planGrid q .axes) 0 ≡ boxSize E (q .axes) 0 = ap (λ n. boxSize E n 0) x in
+        let small = few-cells in
+        record {
+          extents = omega arith;
+          strides = omega arith;
+          some = omega (arith, within .some);
+          most = omega arith;
+          near = λ d h. rw (ts d h) (stride-small q ok mask d h);
         }
 
     module _ (n : ℕ) (en : n ≡ planGrid q .axes) (le : length E ≡ 8) (lt : length T ≡ 8) (few : n ≤ 8) (src : ℕ) (er : src ≡ index (planGrid q) b (next (summedIn q mask) - 1) 0) (work now : List ℤ) (c : Copying q mask (length work) (length now)) where

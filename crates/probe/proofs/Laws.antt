@@ -33,7 +33,7 @@ all-cells s f h k =
 
 -- ---- refusals
 
-pub left-alone : (n : ℕ) (new old : List ℕ) → (n ≡ 0 → ⊥) → writtenOr n new old ≡ old
+pub left-alone : {A : Type 0} (n : ℕ) (new old : List A) → (n ≡ 0 → ⊥) → writtenOr n new old ≡ old
 unfolding writtenOr
 left-alone zero new old h = absurd (h refl)
 left-alone (suc n) new old h = refl

@@ -78,27 +78,27 @@ refused-is zero a k e = absurd (let z : _≡_ {A = ℕ} 0 1 = cc in omega arith)
 refused-is (suc n) a k e = let q : k ≡ suc n = cc in (q, λ z. omega arith)
 
 -- a slice of the wrong length, and of the right one
-module _ (n : ℕ) (s new : List ℕ) where
+module _ {A : Type 0} (n : ℕ) (s new : List A) where
   pub wrong : (length s ≡ n → ⊥) → (13 ≡ lentRefusal [] n (length s)) × (s ≡ writtenOr 13 new s)
   unfolding lentRefusal first writtenOr
   wrong h = rw (ne-eqb (length s) n h) (refl, refl)
 
-  pub right : length s ≡ n → (w : List ℕ) → w ≡ new → (0 ≡ lentRefusal [] n (length s)) × (w ≡ writtenOr 0 new s)
+  pub right : length s ≡ n → (w : List A) → w ≡ new → (0 ≡ lentRefusal [] n (length s)) × (w ≡ writtenOr 0 new s)
   unfolding lentRefusal first writtenOr
   right h w e = rw (eq-eqb (length s) n h) (refl, e)
 
 -- the refusal of some checks and of a slice, and the slice afterwards
-module _ (checks : List Check) (n : ℕ) (s : List ℕ) where
+module _ {A : Type 0} (checks : List Check) (n : ℕ) (s : List A) where
   abbrev lent : ℕ
   lent = lentRefusal checks n (length s)
 
-  refused : (k : ℕ) → k ≡ first checks → (k ≡ 0 → ⊥) → (new : List ℕ) → (k ≡ lent) × (s ≡ writtenOr lent new s)
+  pub refused : (k : ℕ) → k ≡ first checks → (k ≡ 0 → ⊥) → (new : List A) → (k ≡ lent) × (s ≡ writtenOr lent new s)
   unfolding lentRefusal
   refused k e h new =
       let q : k ≡ lent = e ∙ sym (first-due checks _ (λ z. h (e ∙ z))) in
       (q, sym (left-alone lent new s (λ z. h (q ∙ z))))
 
-  passed : Numbered checks → first checks ≡ 0 → (r : ℕ) (new w : List ℕ) → r ≡ lentRefusal [] n (length s) → w ≡ writtenOr r new s
+  pub passed : Numbered checks → first checks ≡ 0 → (r : ℕ) (new w : List A) → r ≡ lentRefusal [] n (length s) → w ≡ writtenOr r new s
       → (r ≡ lent) × (w ≡ writtenOr lent new s)
   unfolding lentRefusal
   passed p e r new w er ew =

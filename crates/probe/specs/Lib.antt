@@ -1,3 +1,4 @@
 pub mod Probing
 pub mod Racks
+pub mod Runs
 pub mod Computing

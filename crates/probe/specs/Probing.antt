@@ -19,7 +19,7 @@ cellsOf s = s .axes ∷ s .p ∷ s .points ∷ s .lengths
 unfoldable pub probeRefusal : List ℕ → ℕ → ℕ
 probeRefusal tape out = first (scanChecks tape ++ (check 13 (not (eqb out cells)) ∷ []))
 
-unfoldable pub writtenOr : ℕ → List ℕ → List ℕ → List ℕ
+unfoldable pub writtenOr : {A : Type 0} → ℕ → List A → List A → List A
 writtenOr zero new old = new
 writtenOr (suc n) new old = old
 

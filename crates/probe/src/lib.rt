@@ -1,5 +1,6 @@
 // The tape's reader for a test program to link: its scan and its filling, over slices and numbers.
 pub mod racks;
+pub mod runs;
 
 ghost use mathlib.Core.Path.{_≡_};
 ghost use lib.ListN.{length};

@@ -54,7 +54,7 @@ fn no_plan() -> Plan
 }
 
 // The plan that two slices hold.
-fn plan_from(small: &[u8], lengths: &[u32]) -> Plan
+pub fn plan_from(small: &[u8], lengths: &[u32]) -> Plan
     ensures { λ r. ⌜ r ≡ planFrom (now (small .entry)) (now (lengths .entry)) ⌝ }
 {
     if small.len() != 18 {
@@ -105,7 +105,7 @@ fn put_cells(out: &mut [u64], cells: [u64; 5])
 }
 
 // Puts a step in a slice of five cells.
-fn put_step(out: &mut [u64], step: Step) -> u8
+pub fn put_step(out: &mut [u64], step: Step) -> u8
     ensures { λ r. ⌜ (r ≡ lentRefusal [] 5 (length (now (out .entry))))
         × (now (out .exit) ≡ writtenOr r (cellsTold (told step)) (now (out .entry))) ⌝ }
 {

@@ -13,6 +13,7 @@ ghost use Rattle.memory.specs.Copies.{oneBoard, Copying};
 use crate::viewing::step_before;
 use boards::types::Step;
 use boxes::copies::put_box;
+use boxes::merging::merge;
 use checks::plan_refusal;
 use cube::types::Choice;
 use engine::refusals::area_of;
@@ -32,19 +33,21 @@ pub fn copy_lead(plan: Plan, choice: Choice, board: u64, work: &[i64], result: &
     ensures { λ _. ⌜ now (result .exit) ≡ oneBoard (listsOf plan .lengths) (planGrid plan) (summedIn plan (choice .mask)) board (read (now (work .entry))) (now (result .entry)) ⌝ }
 {
     let labels = labels_of(plan, board);
-    let extents = extents_of(plan, choice, labels);
-    let strides = strides_of(plan, choice);
+    let mut extents = extents_of(plan, choice, labels);
+    let mut strides = strides_of(plan, choice);
     let at = first_cell(plan, choice, labels);
     let next = next_of(plan, choice);
     let src = region_at(plan, board, next - 1);
     let n = plan.axes as usize;
+    // Fewer and longer axes: put_box then copies long rows.
+    let k = merge(&mut extents, &mut strides, n);
     put_box(
         result,
         work,
         &extents,
         &strides,
-        n,
-        0,
+        n - k,
+        k,
         at as usize,
         src as usize,
     );

@@ -5,9 +5,13 @@ use mathlib.Core.Path.{_≡_, _∙_, refl}
 use native.Mathlib.Omega.{arith}
 use native.Mathlib.Nat.{zero-mul, add-zero, add-mul, one-mul}
 use lib.ListN.{length, getD}
+use lib.IntN.{pos}
+use mir.Facts.{toZ-ofZ}
+use mir.Val.{SFits}
+use mir.Syntax.{w64}
 use Rattle.cells.specs.Rows.{from, placed}
 use Rattle.cells.specs.Strides.{boxSize, boxPlace}
-use Rattle.cells.proofs.Parts.{part-fits, part-put, part-reads, size-of, row-fits-box, row-size, row-put}
+use Rattle.cells.proofs.Parts.{cell-fits, cell-size, cell-put, part-fits, part-put, part-reads, size-of, row-fits-box, row-size, row-put}
 use Prim.Native.Nat.{ℕ, _<_}
 use borrow.Fn.Kinds.{In}
 use borrow.Fn.PlainCycle.{Measures, is, falls, and}
@@ -34,7 +38,7 @@ put-box-Inv-loop result₀ work extents strides m d at src e t next₀ x₀ resu
 abbrev put-box-μ-loop : put-box-lts.MeasureT-loop
 put-box-μ-loop result₀ work extents strides m d at src e t next₀ x₀ result next x = e - x
 
-put-box-mul-e : (t : ℕ) → put-box-lts.Need-mul-e (
+put-box-mul-x : (t : ℕ) → put-box-lts.Need-mul-x (
   put-line-reads.Asked,
   put-line-reads.Learnt,
   put-plane-reads.Asked,
@@ -42,9 +46,9 @@ put-box-mul-e : (t : ℕ) → put-box-lts.Need-mul-e (
   put-box-below t,
   put-box.Post,
 ) (put-box-at t) put-box.Post put-box-Inv-loop put-box-μ-loop
-put-box-mul-e t c = search needs
+put-box-mul-x t c = search needs
 
-put-box-shared-slice-read-e : (t : ℕ) → put-box-lts.Need-shared-slice-read-e (
+put-box-shared-slice-copy-out-x : (t : ℕ) → put-box-lts.Need-shared-slice-copy-out-x (
   put-line-reads.Asked,
   put-line-reads.Learnt,
   put-plane-reads.Asked,
@@ -52,9 +56,9 @@ put-box-shared-slice-read-e : (t : ℕ) → put-box-lts.Need-shared-slice-read-e
   put-box-below t,
   put-box.Post,
 ) (put-box-at t) put-box.Post put-box-Inv-loop put-box-μ-loop
-put-box-shared-slice-read-e t c = omega (arith, c .before .before .before .pre .1 .1 .within .extents)
+put-box-shared-slice-copy-out-x t c = let s = c .before .before .before in cell-fits (c .if1 .taken) (s .pre .1) .1
 
-put-box-mul-t : (t : ℕ) → put-box-lts.Need-mul-t (
+put-box-mul-x-2 : (t : ℕ) → put-box-lts.Need-mul-x-2 (
   put-line-reads.Asked,
   put-line-reads.Learnt,
   put-plane-reads.Asked,
@@ -62,9 +66,9 @@ put-box-mul-t : (t : ℕ) → put-box-lts.Need-mul-t (
   put-box-below t,
   put-box.Post,
 ) (put-box-at t) put-box.Post put-box-Inv-loop put-box-μ-loop
-put-box-mul-t t c = search needs
+put-box-mul-x-2 t c = let s = c .before .before .before .before in omega (arith, cell-fits (c .before .if1 .taken) (s .pre .1) .0)
 
-put-box-shared-slice-read-t : (t : ℕ) → put-box-lts.Need-shared-slice-read-t (
+put-box-slice-set-from-x : (t : ℕ) → put-box-lts.Need-slice-set-from-x (
   put-line-reads.Asked,
   put-line-reads.Learnt,
   put-plane-reads.Asked,
@@ -72,17 +76,7 @@ put-box-shared-slice-read-t : (t : ℕ) → put-box-lts.Need-shared-slice-read-t
   put-box-below t,
   put-box.Post,
 ) (put-box-at t) put-box.Post put-box-Inv-loop put-box-μ-loop
-put-box-shared-slice-read-t t c = omega (arith, c .before .before .before .before .pre .1 .1 .within .strides)
-
-put-box-put-line-requires : (t : ℕ) → put-box-lts.Need-put-line-requires (
-  put-line-reads.Asked,
-  put-line-reads.Learnt,
-  put-plane-reads.Asked,
-  put-plane-reads.Learnt,
-  put-box-below t,
-  put-box.Post,
-) (put-box-at t) put-box.Post put-box-Inv-loop put-box-μ-loop
-put-box-put-line-requires t c κs = let s = c .before .before .before .before .before .before in row-fits-box (c .before .if1 .taken) (s .pre .1 .1)
+put-box-slice-set-from-x t c = let s = c .before .before .before .before in cell-fits (c .before .if1 .taken) (s .pre .1) .0
 
 put-box-same-length : (t : ℕ) → put-box-lts.Need-same-length (
   put-line-reads.Asked,
@@ -103,11 +97,12 @@ put-box-returns : (t : ℕ) → put-box-lts.Need-returns (
   put-box.Post,
 ) (put-box-at t) put-box.Post put-box-Inv-loop put-box-μ-loop
 put-box-returns t c =
-    let s = c .before .before .before .before .before .before .before .before in
-    let q = c .before .before .before .if1 .taken in
-    (row-size _ _ _ q, c .before .put-line .ensures ∙ row-put _ _ _ _ _ _ _ q)
+    let a = c .before .before .before .before .args in
+    let q = c .before .if1 .taken in
+    let f : SFits w64 (getD (a .work .now) (a .src) (pos 0)) = record { sfits = c .x .given } in
+    (cell-size _ _ _ q, rw (toZ-ofZ f) (cell-put (a .result .now) (a .work .now) (a .extents .now) (a .strides .now) (a .m) (a .d) (a .at) (a .src) q))
 
-put-box-put-plane-requires : (t : ℕ) → put-box-lts.Need-put-plane-requires (
+put-box-mul-e : (t : ℕ) → put-box-lts.Need-mul-e (
   put-line-reads.Asked,
   put-line-reads.Learnt,
   put-plane-reads.Asked,
@@ -115,7 +110,47 @@ put-box-put-plane-requires : (t : ℕ) → put-box-lts.Need-put-plane-requires (
   put-box-below t,
   put-box.Post,
 ) (put-box-at t) put-box.Post put-box-Inv-loop put-box-μ-loop
-put-box-put-plane-requires t c κs = let s = c .before .before .before .before .before .before .before in rw (c .before .if2 .taken) at (s .pre .1 .1)
+put-box-mul-e t c = search needs
+
+put-box-shared-slice-read-e : (t : ℕ) → put-box-lts.Need-shared-slice-read-e (
+  put-line-reads.Asked,
+  put-line-reads.Learnt,
+  put-plane-reads.Asked,
+  put-plane-reads.Learnt,
+  put-box-below t,
+  put-box.Post,
+) (put-box-at t) put-box.Post put-box-Inv-loop put-box-μ-loop
+put-box-shared-slice-read-e t c = omega (arith, c .before .before .before .before .pre .1 .within .extents)
+
+put-box-mul-t : (t : ℕ) → put-box-lts.Need-mul-t (
+  put-line-reads.Asked,
+  put-line-reads.Learnt,
+  put-plane-reads.Asked,
+  put-plane-reads.Learnt,
+  put-box-below t,
+  put-box.Post,
+) (put-box-at t) put-box.Post put-box-Inv-loop put-box-μ-loop
+put-box-mul-t t c = search needs
+
+put-box-shared-slice-read-t : (t : ℕ) → put-box-lts.Need-shared-slice-read-t (
+  put-line-reads.Asked,
+  put-line-reads.Learnt,
+  put-plane-reads.Asked,
+  put-plane-reads.Learnt,
+  put-box-below t,
+  put-box.Post,
+) (put-box-at t) put-box.Post put-box-Inv-loop put-box-μ-loop
+put-box-shared-slice-read-t t c = omega (arith, c .before .before .before .before .before .pre .1 .within .strides)
+
+put-box-put-line-requires : (t : ℕ) → put-box-lts.Need-put-line-requires (
+  put-line-reads.Asked,
+  put-line-reads.Learnt,
+  put-plane-reads.Asked,
+  put-plane-reads.Learnt,
+  put-box-below t,
+  put-box.Post,
+) (put-box-at t) put-box.Post put-box-Inv-loop put-box-μ-loop
+put-box-put-line-requires t c κs = let s = c .before .before .before .before .before .before .before in row-fits-box (c .before .if2 .taken) (s .pre .1)
 
 put-box-same-length-2 : (t : ℕ) → put-box-lts.Need-same-length-2 (
   put-line-reads.Asked,
@@ -135,7 +170,40 @@ put-box-returns-2 : (t : ℕ) → put-box-lts.Need-returns-2 (
   put-box-below t,
   put-box.Post,
 ) (put-box-at t) put-box.Post put-box-Inv-loop put-box-μ-loop
-put-box-returns-2 t c = rw (c .before .before .before .if2 .taken) (c .before .put-plane .ensures)
+put-box-returns-2 t c =
+    let s = c .before .before .before .before .before .before .before .before .before in
+    let q = c .before .before .before .if2 .taken in
+    (row-size _ _ _ q, c .before .put-line .ensures ∙ row-put _ _ _ _ _ _ _ q)
+
+put-box-put-plane-requires : (t : ℕ) → put-box-lts.Need-put-plane-requires (
+  put-line-reads.Asked,
+  put-line-reads.Learnt,
+  put-plane-reads.Asked,
+  put-plane-reads.Learnt,
+  put-box-below t,
+  put-box.Post,
+) (put-box-at t) put-box.Post put-box-Inv-loop put-box-μ-loop
+put-box-put-plane-requires t c κs = let s = c .before .before .before .before .before .before .before .before in rw (c .before .if3 .taken) at (s .pre .1)
+
+put-box-same-length-3 : (t : ℕ) → put-box-lts.Need-same-length-3 (
+  put-line-reads.Asked,
+  put-line-reads.Learnt,
+  put-plane-reads.Asked,
+  put-plane-reads.Learnt,
+  put-box-below t,
+  put-box.Post,
+) (put-box-at t) put-box.Post put-box-Inv-loop put-box-μ-loop
+put-box-same-length-3 t c = search needs
+
+put-box-returns-3 : (t : ℕ) → put-box-lts.Need-returns-3 (
+  put-line-reads.Asked,
+  put-line-reads.Learnt,
+  put-plane-reads.Asked,
+  put-plane-reads.Learnt,
+  put-box-below t,
+  put-box.Post,
+) (put-box-at t) put-box.Post put-box-Inv-loop put-box-μ-loop
+put-box-returns-3 t c = rw (c .before .before .before .if3 .taken) (c .before .put-plane .ensures)
 
 put-box-loop-holds : (t : ℕ) → put-box-lts.Need-loop-holds (
   put-line-reads.Asked,
@@ -147,6 +215,38 @@ put-box-loop-holds : (t : ℕ) → put-box-lts.Need-loop-holds (
 ) (put-box-at t) put-box.Post put-box-Inv-loop put-box-μ-loop
 unfolding placed
 put-box-loop-holds t c = (search needs, refl, rw (zero-mul, add-zero), rw zero-mul)
+
+put-box-mul-first : (t : ℕ) → put-box-lts.Need-mul-first (
+  put-line-reads.Asked,
+  put-line-reads.Learnt,
+  put-plane-reads.Asked,
+  put-plane-reads.Learnt,
+  put-box-below t,
+  put-box.Post,
+) (put-box-at t) put-box.Post put-box-Inv-loop put-box-μ-loop
+put-box-mul-first t c =
+    let l = c .before in
+    let s = l .before .before .before .before .before .before .before .before in
+    let q : s .args .m ≡ suc (s .args .m - 1) = omega (arith, l .before .before .before .before .before .if1 .left) in
+    let b = s .pre .1 in
+    let x : l .loop .x < getD (s .args .extents .now) (s .args .d) 0 = omega arith in
+    omega (arith, part-reads _ _ q _ (b .within) _ x)
+
+put-box-add-first : (t : ℕ) → put-box-lts.Need-add-first (
+  put-line-reads.Asked,
+  put-line-reads.Learnt,
+  put-plane-reads.Asked,
+  put-plane-reads.Learnt,
+  put-box-below t,
+  put-box.Post,
+) (put-box-at t) put-box.Post put-box-Inv-loop put-box-μ-loop
+put-box-add-first t c =
+    let l = c .before in
+    let s = l .before .before .before .before .before .before .before .before in
+    let q : s .args .m ≡ suc (s .args .m - 1) = omega (arith, l .before .before .before .before .before .if1 .left) in
+    let b = s .pre .1 in
+    let x : l .loop .x < getD (s .args .extents .now) (s .args .d) 0 = omega arith in
+    omega (arith, part-reads _ _ q _ (b .within) _ x)
 
 put-box-sub-put-box : (t : ℕ) → put-box-lts.Need-sub-put-box (
   put-line-reads.Asked,
@@ -168,43 +268,11 @@ put-box-add-put-box : (t : ℕ) → put-box-lts.Need-add-put-box (
 ) (put-box-at t) put-box.Post put-box-Inv-loop put-box-μ-loop
 put-box-add-put-box t c =
     let l = c .before .before in
-    let s = l .before .before .before .before .before .before .before in
-    let q : s .args .m ≡ suc (s .args .m - 1) = omega arith in
-    let b = s .pre .1 .1 in
+    let s = l .before .before .before .before .before .before .before .before in
+    let q : s .args .m ≡ suc (s .args .m - 1) = omega (arith, l .before .before .before .before .before .if1 .left) in
+    let b = s .pre .1 in
     let x : l .loop .x < getD (s .args .extents .now) (s .args .d) 0 = omega arith in
     omega (arith, b .within .extents)
-
-put-box-mul-put-box : (t : ℕ) → put-box-lts.Need-mul-put-box (
-  put-line-reads.Asked,
-  put-line-reads.Learnt,
-  put-plane-reads.Asked,
-  put-plane-reads.Learnt,
-  put-box-below t,
-  put-box.Post,
-) (put-box-at t) put-box.Post put-box-Inv-loop put-box-μ-loop
-put-box-mul-put-box t c =
-    let l = c .before .before in
-    let s = l .before .before .before .before .before .before .before in
-    let q : s .args .m ≡ suc (s .args .m - 1) = omega arith in
-    let b = s .pre .1 .1 in
-    let x : l .loop .x < getD (s .args .extents .now) (s .args .d) 0 = omega arith in
-    omega (arith, part-reads _ _ q _ (b .within) _ x)
-
-put-box-add-put-box-2 : (t : ℕ) → put-box-lts.Need-add-put-box-2 (
-  put-line-reads.Asked,
-  put-line-reads.Learnt,
-  put-plane-reads.Asked,
-  put-plane-reads.Learnt,
-  put-box-below t,
-  put-box.Post,
-) (put-box-at t) put-box.Post put-box-Inv-loop put-box-μ-loop
-put-box-add-put-box-2 t c =
-    let l = c .before .before in
-    let s = l .before .before .before .before .before .before .before in
-    let q : s .args .m ≡ suc (s .args .m - 1) = omega arith in
-    let b = s .pre .1 .1 in
-    let x : l .loop .x < getD (s .args .extents .now) (s .args .d) 0 = omega arith in
-    omega (arith, part-reads _ _ q _ (b .within) _ x)
 
 put-box-put-box-requires : (t : ℕ) → put-box-lts.Need-put-box-requires (
   put-line-reads.Asked,
@@ -216,11 +284,11 @@ put-box-put-box-requires : (t : ℕ) → put-box-lts.Need-put-box-requires (
 ) (put-box-at t) put-box.Post put-box-Inv-loop put-box-μ-loop
 put-box-put-box-requires t c κs =
     let l = c .before .before in
-    let s = l .before .before .before .before .before .before .before in
-    let q : s .args .m ≡ suc (s .args .m - 1) = omega arith in
-    let b = s .pre .1 .1 in
+    let s = l .before .before .before .before .before .before .before .before in
+    let q : s .args .m ≡ suc (s .args .m - 1) = omega (arith, l .before .before .before .before .before .if1 .left) in
+    let b = s .pre .1 in
     let x : l .loop .x < getD (s .args .extents .now) (s .args .d) 0 = omega arith in
-    (omega arith, (omega (arith, l .before .before .if1 .left), rw (l .loop .inv .1, l .loop .inv .2) (part-fits _ _ q _ b _ x)))
+    (omega arith, rw (l .loop .inv .1, l .loop .inv .2) (part-fits _ _ q _ b _ x))
 
 put-box-add-next : (t : ℕ) → put-box-lts.Need-add-next (
   put-line-reads.Asked,
@@ -232,9 +300,9 @@ put-box-add-next : (t : ℕ) → put-box-lts.Need-add-next (
 ) (put-box-at t) put-box.Post put-box-Inv-loop put-box-μ-loop
 put-box-add-next t c =
     let l = c .before .before .before .before in
-    let s = l .before .before .before .before .before .before .before in
-    let q : s .args .m ≡ suc (s .args .m - 1) = omega arith in
-    let b = s .pre .1 .1 in
+    let s = l .before .before .before .before .before .before .before .before in
+    let q : s .args .m ≡ suc (s .args .m - 1) = omega (arith, l .before .before .before .before .before .if1 .left) in
+    let b = s .pre .1 in
     let x : l .loop .x < getD (s .args .extents .now) (s .args .d) 0 = omega arith in
     omega (arith, part-fits _ _ q _ b _ x .fits)
 
@@ -248,12 +316,12 @@ put-box-add-x : (t : ℕ) → put-box-lts.Need-add-x (
 ) (put-box-at t) put-box.Post put-box-Inv-loop put-box-μ-loop
 put-box-add-x t c =
     let l = c .before .before .before .before in
-    let s = l .before .before .before .before .before .before .before in
-    let q : s .args .m ≡ suc (s .args .m - 1) = omega arith in
-    let b = s .pre .1 .1 in
+    let s = l .before .before .before .before .before .before .before .before in
+    let q : s .args .m ≡ suc (s .args .m - 1) = omega (arith, l .before .before .before .before .before .if1 .left) in
+    let b = s .pre .1 in
     let x : l .loop .x < getD (s .args .extents .now) (s .args .d) 0 = omega arith in
     let k = l .before .before .before .before in
-    omega (arith, k .shared-slice-known3 .given (s .args .d), k .before .shared-slice-known2 .given (s .args .d))
+    omega (arith, k .shared-slice-known3 .given (s .args .d), k .before .before .shared-slice-known2 .given (s .args .d))
 
 put-box-loop-less : (t : ℕ) → put-box-lts.Need-loop-less (
   put-line-reads.Asked,
@@ -275,9 +343,9 @@ put-box-loop-again : (t : ℕ) → put-box-lts.Need-loop-again (
 ) (put-box-at t) put-box.Post put-box-Inv-loop put-box-μ-loop
 put-box-loop-again t c =
     let l = c .before .before .before .before in
-    let s = l .before .before .before .before .before .before .before in
-    let q : s .args .m ≡ suc (s .args .m - 1) = omega arith in
-    let b = s .pre .1 .1 in
+    let s = l .before .before .before .before .before .before .before .before in
+    let q : s .args .m ≡ suc (s .args .m - 1) = omega (arith, l .before .before .before .before .before .if1 .left) in
+    let b = s .pre .1 in
     let x : l .loop .x < getD (s .args .extents .now) (s .args .d) 0 = omega arith in
     let r = boxSize (s .args .extents .now) (s .args .m - 1) (s .args .d + 1) in (
       search needs,
@@ -296,7 +364,7 @@ put-box-sub-result : (t : ℕ) → put-box-lts.Need-sub-result (
 ) (put-box-at t) put-box.Post put-box-Inv-loop put-box-μ-loop
 put-box-sub-result t c = search needs
 
-put-box-same-length-3 : (t : ℕ) → put-box-lts.Need-same-length-3 (
+put-box-same-length-4 : (t : ℕ) → put-box-lts.Need-same-length-4 (
   put-line-reads.Asked,
   put-line-reads.Learnt,
   put-plane-reads.Asked,
@@ -304,9 +372,9 @@ put-box-same-length-3 : (t : ℕ) → put-box-lts.Need-same-length-3 (
   put-box-below t,
   put-box.Post,
 ) (put-box-at t) put-box.Post put-box-Inv-loop put-box-μ-loop
-put-box-same-length-3 t c = search needs
+put-box-same-length-4 t c = search needs
 
-put-box-returns-3 : (t : ℕ) → put-box-lts.Need-returns-3 (
+put-box-returns-4 : (t : ℕ) → put-box-lts.Need-returns-4 (
   put-line-reads.Asked,
   put-line-reads.Learnt,
   put-plane-reads.Asked,
@@ -314,10 +382,10 @@ put-box-returns-3 : (t : ℕ) → put-box-lts.Need-returns-3 (
   put-box-below t,
   put-box.Post,
 ) (put-box-at t) put-box.Post put-box-Inv-loop put-box-μ-loop
-put-box-returns-3 t c =
+put-box-returns-4 t c =
     let l = c .before in
-    let s = l .before .before .before .before .before .before .before in
-    let q : s .args .m ≡ suc (s .args .m - 1) = omega arith in
+    let s = l .before .before .before .before .before .before .before .before in
+    let q : s .args .m ≡ suc (s .args .m - 1) = omega (arith, l .before .before .before .before .before .if1 .left) in
     let x : l .loop .x ≡ getD (s .args .extents .now) (s .args .d) 0 = omega arith in
     rw (size-of _ q _) (omega (arith, rw x at (l .loop .inv .2)), rw x at (l .loop .inv .3))
 
@@ -334,26 +402,32 @@ pub +put-box-spec : {M : Type 1} → statement M
     put-box.Post
     put-box-Inv-loop
     put-box-μ-loop
+    (put-box-mul-x t)
+    (put-box-shared-slice-copy-out-x t)
+    (put-box-mul-x-2 t)
+    (put-box-slice-set-from-x t)
+    (put-box-same-length t)
+    (put-box-returns t)
     (put-box-mul-e t)
     (put-box-shared-slice-read-e t)
     (put-box-mul-t t)
     (put-box-shared-slice-read-t t)
     (put-box-put-line-requires t)
-    (put-box-same-length t)
-    (put-box-returns t)
-    (put-box-put-plane-requires t)
     (put-box-same-length-2 t)
     (put-box-returns-2 t)
+    (put-box-put-plane-requires t)
+    (put-box-same-length-3 t)
+    (put-box-returns-3 t)
     (put-box-loop-holds t)
+    (put-box-mul-first t)
+    (put-box-add-first t)
     (put-box-sub-put-box t)
     (put-box-add-put-box t)
-    (put-box-mul-put-box t)
-    (put-box-add-put-box-2 t)
     (put-box-put-box-requires t)
     (put-box-add-next t)
     (put-box-add-x t)
     (put-box-loop-less t)
     (put-box-loop-again t)
     (put-box-sub-result t)
-    (put-box-same-length-3 t)
-    (put-box-returns-3 t)
+    (put-box-same-length-4 t)
+    (put-box-returns-4 t)

@@ -1,8 +1,8 @@
 use mir.Syntax.{w64}
 use mir.Val.{SFits}
 use mir.Facts.{toZ-ofZ}
-use Rattle.cells.proofs.Summing.{sums-part, sums-more, sums-reads, row-sums-fit, row-sums, one-sum-fits, one-sum, one-size, row-count}
-use Rattle.cells.proofs.Parts.{size-of}
+use Rattle.cells.proofs.Summing.{sums-part, sums-more, sums-reads, row-sums-fit, row-sums, one-sum-fits, one-sum}
+use Rattle.cells.proofs.Parts.{size-of, cell-size, row-size}
 use Rattle.cells.specs.Strides.{boxSize, boxSums}
 use Rattle.cells.specs.Rows.{placed, written}
 use lib.ListN.{length, getD}
@@ -93,7 +93,7 @@ sum-box-returns : (t : ℕ) → sum-box-lts.Need-returns (
 sum-box-returns t c = let s = c .before .before .before .before in
     let q = c .before .if1 .taken in
     let ok : SFits w64 (c .sum-points .result) = record { sfits = c .sum-points .ok } in
-    (one-size _ _ _ q, rw (toZ-ofZ ok, c .sum-points .ensures) (one-sum _ _ _ _ _ _ _ _ _ _ q))
+    (cell-size _ _ _ q, rw (toZ-ofZ ok, c .sum-points .ensures) (one-sum _ _ _ _ _ _ _ _ _ _ q))
 
 -- src/sums.rt:66:13
 sum-box-mul-e : (t : ℕ) → sum-box-lts.Need-mul-e (
@@ -172,7 +172,7 @@ sum-box-returns-2 : (t : ℕ) → sum-box-lts.Need-returns-2 (
 ) (sum-box-at t) sum-box.Post sum-box-Inv-loop sum-box-μ-loop
 sum-box-returns-2 t c = let s = c .before .before .before .before .before .before .before .before .before in
     let q = c .before .before .before .if2 .taken in
-    (row-count _ _ _ q, c .before .sum-combs .ensures ∙ row-sums _ _ _ _ _ _ _ _ _ _ q)
+    (row-size _ _ _ q, c .before .sum-combs .ensures ∙ row-sums _ _ _ _ _ _ _ _ _ _ q)
 
 -- src/sums.rt:73:5
 sum-box-loop-holds : (t : ℕ) → sum-box-lts.Need-loop-holds (

@@ -1,11 +1,15 @@
 -- `sum_axis` meets its contract.
 use borrow.Author.Needs.{needs}
+use mathlib.Core.Path.{_∙_}
+use native.Mathlib.Omega.{arith}
 use native.Mathlib.Nat.{mul-one}
+use Rattle.cells.proofs.Writing.{same}
+use Rattle.cells.proofs.Combs.{comb-run}
 use Rattle.cells.proofs.rows.sum_axis.Statement.{statement}
 use Rattle.cells.proofs.rows.sum_axis.Tie as tie
 
-sum-runs-requires : tie.Need-sum-runs-requires
-sum-runs-requires c κs = rw (c .before .if1 .taken, mul-one, mul-one) at (c .before .before .pre)
+sum-combs-requires : tie.Need-sum-combs-requires
+sum-combs-requires c κs = let p = rw (c .before .if1 .taken, mul-one, mul-one) at (c .before .before .pre) in (omega (arith, p .0, p .1), omega (arith, p .0), p .1)
 
 sum-blocks-requires : tie.Need-sum-blocks-requires
 sum-blocks-requires c κs = search needs
@@ -14,7 +18,7 @@ same-length : tie.Need-same-length
 same-length c = search needs
 
 returns : tie.Need-returns
-returns c = rw (c .before .before .before .if1 .taken, mul-one) (c .before .sum-runs .ensures)
+returns c = rw (c .before .before .before .if1 .taken, mul-one) (c .before .sum-combs .ensures ∙ same _ _ _ _ _ (λ i h. comb-run _ _ _ i))
 
 same-length-2 : tie.Need-same-length-2
 same-length-2 c = search needs
@@ -25,4 +29,4 @@ returns-2 c = search needs
 pub sum-axis-spec : {M : Type 1} → statement M
 sum-axis-spec =
     tie.close
-    (tie.spec sum-runs-requires sum-blocks-requires same-length returns same-length-2 returns-2)
+    (tie.spec sum-combs-requires sum-blocks-requires same-length returns same-length-2 returns-2)

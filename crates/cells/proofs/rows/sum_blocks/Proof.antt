@@ -5,8 +5,9 @@ use mathlib.Core.Path.{_≡_, refl}
 use native.Mathlib.Omega.{arith}
 use lib.ListN.{length}
 use Rattle.cells.specs.Rows.{from, placed, written, axisSums}
-use Rattle.cells.proofs.Writing.{row-fits, block-more, block-cell, left-of}
+use Rattle.cells.proofs.Writing.{row-fits}
 use native.Mathlib.Nat.{zero-mul}
+use Rattle.cells.proofs.Combs.{blocks-more}
 use Rattle.cells.proofs.rows.sum_blocks.Statement.{statement}
 use Rattle.cells.proofs.rows.sum_blocks.Tie as tie
 
@@ -20,23 +21,28 @@ loop-holds : tie.Need-loop-holds Inv-loop μ-loop
 unfolding written placed
 loop-holds c = (search needs, refl, rw zero-mul)
 
-mul-sum-block : tie.Need-mul-sum-block Inv-loop μ-loop
-mul-sum-block c = let l = c .before .before in let a = l .before .args in let r = row-fits (l .loop .o) (a .outer) (a .e * a .inner) (omega arith) in let s = row-fits (l .loop .o) (a .outer) (a .inner) (omega arith) in omega arith
+mul-sum-combs : tie.Need-mul-sum-combs Inv-loop μ-loop
+mul-sum-combs c = let l = c .before .before in let a = l .before .args in let r = row-fits (l .loop .o) (a .outer) (a .e * a .inner) (omega arith) in let s = row-fits (l .loop .o) (a .outer) (a .inner) (omega arith) in omega arith
 
-mul-sum-block-2 : tie.Need-mul-sum-block-2 Inv-loop μ-loop
-mul-sum-block-2 c = let l = c .before .before in let a = l .before .args in let r = row-fits (l .loop .o) (a .outer) (a .e * a .inner) (omega arith) in let s = row-fits (l .loop .o) (a .outer) (a .inner) (omega arith) in omega arith
+mul-sum-combs-2 : tie.Need-mul-sum-combs-2 Inv-loop μ-loop
+mul-sum-combs-2 c = let l = c .before .before in let a = l .before .args in let r = row-fits (l .loop .o) (a .outer) (a .e * a .inner) (omega arith) in let s = row-fits (l .loop .o) (a .outer) (a .inner) (omega arith) in omega arith
 
-add-sum-block : tie.Need-add-sum-block Inv-loop μ-loop
-add-sum-block c = let l = c .before .before in let a = l .before .args in let r = row-fits (l .loop .o) (a .outer) (a .e * a .inner) (omega arith) in let s = row-fits (l .loop .o) (a .outer) (a .inner) (omega arith) in omega arith
+add-sum-combs : tie.Need-add-sum-combs Inv-loop μ-loop
+add-sum-combs c = let l = c .before .before in let a = l .before .args in let r = row-fits (l .loop .o) (a .outer) (a .e * a .inner) (omega arith) in let s = row-fits (l .loop .o) (a .outer) (a .inner) (omega arith) in omega arith
 
-mul-sum-block-3 : tie.Need-mul-sum-block-3 Inv-loop μ-loop
-mul-sum-block-3 c = let l = c .before .before in let a = l .before .args in let r = row-fits (l .loop .o) (a .outer) (a .e * a .inner) (omega arith) in let s = row-fits (l .loop .o) (a .outer) (a .inner) (omega arith) in omega arith
+mul-sum-combs-3 : tie.Need-mul-sum-combs-3 Inv-loop μ-loop
+mul-sum-combs-3 c = let l = c .before .before in let a = l .before .args in let r = row-fits (l .loop .o) (a .outer) (a .e * a .inner) (omega arith) in let s = row-fits (l .loop .o) (a .outer) (a .inner) (omega arith) in omega arith
 
-add-sum-block-2 : tie.Need-add-sum-block-2 Inv-loop μ-loop
-add-sum-block-2 c = let l = c .before .before in let a = l .before .args in let r = row-fits (l .loop .o) (a .outer) (a .e * a .inner) (omega arith) in let s = row-fits (l .loop .o) (a .outer) (a .inner) (omega arith) in omega arith
+add-sum-combs-2 : tie.Need-add-sum-combs-2 Inv-loop μ-loop
+add-sum-combs-2 c = let l = c .before .before in let a = l .before .args in let r = row-fits (l .loop .o) (a .outer) (a .e * a .inner) (omega arith) in let s = row-fits (l .loop .o) (a .outer) (a .inner) (omega arith) in omega arith
 
-sum-block-requires : tie.Need-sum-block-requires Inv-loop μ-loop
-sum-block-requires c κs = let l = c .before .before in let a = l .before .args in let r = row-fits (l .loop .o) (a .outer) (a .e * a .inner) (omega arith) in let s = row-fits (l .loop .o) (a .outer) (a .inner) (omega arith) in (omega arith, omega arith)
+sum-combs-requires : tie.Need-sum-combs-requires Inv-loop μ-loop
+sum-combs-requires c κs =
+    let l = c .before .before in
+    let a = l .before .args in
+    let r = row-fits (l .loop .o) (a .outer) (a .e * a .inner) (omega arith) in
+    let s = row-fits (l .loop .o) (a .outer) (a .inner) (omega arith) in
+    (omega arith, omega arith, omega arith)
 
 add-o : tie.Need-add-o Inv-loop μ-loop
 add-o c = search needs
@@ -49,12 +55,7 @@ loop-again c =
     let l = c .before .before .before .before in
     let a = l .before .args in
     let r = row-fits (l .loop .o) (a .outer) (a .e * a .inner) (omega arith) in
-    let s = row-fits (l .loop .o) (a .outer) (a .inner) (omega arith) in (
-      search needs,
-      search needs,
-      rw (c .before .sum-block .ensures, l .loop .inv .2)
-          (block-more _ _ _ _ _ _ _ (λ i h. block-cell _ _ _ _ _ _ h (λ m k. left-of _ _ _ _ _ _ _ (omega (arith, row-fits m (a .e) (a .inner) k))))),
-    )
+    (search needs, search needs, rw (c .before .sum-combs .ensures, l .loop .inv .2) (blocks-more _ _ _ _ _ _ (omega arith)))
 
 same-length : tie.Need-same-length Inv-loop μ-loop
 same-length c = search needs
@@ -69,12 +70,12 @@ sum-blocks-spec =
     Inv-loop
     μ-loop
     loop-holds
-    mul-sum-block
-    mul-sum-block-2
-    add-sum-block
-    mul-sum-block-3
-    add-sum-block-2
-    sum-block-requires
+    mul-sum-combs
+    mul-sum-combs-2
+    add-sum-combs
+    mul-sum-combs-3
+    add-sum-combs-2
+    sum-combs-requires
     add-o
     loop-less
     loop-again

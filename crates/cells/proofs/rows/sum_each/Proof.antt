@@ -1,22 +1,23 @@
--- `sum_runs` meets its contract. The invariant: the first o sums are written.
+-- `sum_each` meets its contract. The invariant: the first i sums are written.
 use borrow.Author.Needs.{needs}
 use Prim.Native.Nat.{_≤_, _-_}
-use mathlib.Core.Path.{_≡_, refl}
+use mathlib.Core.Path.{_≡_, _∙_, refl}
 use native.Mathlib.Omega.{arith}
 use lib.ListN.{length}
 use mir.Facts.{toZ-ofZ}
 use mir.Val.{SFits}
 use mir.Syntax.{w64}
-use Rattle.cells.specs.Rows.{from, placed, written, axisSums}
-use Rattle.cells.proofs.Writing.{row-fits, one-more, run-cell}
-use Rattle.cells.proofs.rows.sum_runs.Statement.{statement}
-use Rattle.cells.proofs.rows.sum_runs.Tie as tie
+use Rattle.cells.specs.Rows.{placed, written, combs}
+use Rattle.cells.proofs.Writing.{row-fits, one-more}
+use Rattle.cells.proofs.Combs.{comb-kept}
+use Rattle.cells.proofs.rows.sum_each.Statement.{statement}
+use Rattle.cells.proofs.rows.sum_each.Tie as tie
 
 abbrev Inv-loop : tie.InvT-loop
-Inv-loop work₀ src dst outer e o₀ work o = (o ≤ outer) × (length work ≡ length work₀) × (work ≡ written work₀ dst o (axisSums (from work₀ src) e 1))
+Inv-loop work₀ at u n t e dst i₀ work i = (i ≤ n) × (length work ≡ length work₀) × (work ≡ written work₀ dst i (combs work₀ at u e t))
 
 abbrev μ-loop : tie.MeasureT-loop
-μ-loop work₀ src dst outer e o₀ work o = outer - o
+μ-loop work₀ at u n t e dst i₀ work i = n - i
 
 loop-holds : tie.Need-loop-holds Inv-loop μ-loop
 unfolding written placed
@@ -26,21 +27,21 @@ mul-sum-every : tie.Need-mul-sum-every Inv-loop μ-loop
 mul-sum-every c =
     let l = c .before .before in
     let a = l .before .args in
-    let r = row-fits (l .loop .o) (a .outer) (a .e) (omega arith) in
+    let r = row-fits (l .loop .i) (a .n) (a .u) (omega arith) in
     omega arith
 
 add-sum-every : tie.Need-add-sum-every Inv-loop μ-loop
 add-sum-every c =
     let l = c .before .before in
     let a = l .before .args in
-    let r = row-fits (l .loop .o) (a .outer) (a .e) (omega arith) in
+    let r = row-fits (l .loop .i) (a .n) (a .u) (omega arith) in
     omega arith
 
 sum-every-requires : tie.Need-sum-every-requires Inv-loop μ-loop
 sum-every-requires c κs =
     let l = c .before .before in
     let a = l .before .args in
-    let r = row-fits (l .loop .o) (a .outer) (a .e) (omega arith) in
+    let r = row-fits (l .loop .i) (a .n) (a .u) (omega arith) in
     omega arith
 
 add-sum : tie.Need-add-sum Inv-loop μ-loop
@@ -52,28 +53,27 @@ mul-sum c = search needs
 slice-set-from-sum : tie.Need-slice-set-from-sum Inv-loop μ-loop
 slice-set-from-sum c = search needs
 
-add-o : tie.Need-add-o Inv-loop μ-loop
-add-o c = search needs
+add-i : tie.Need-add-i Inv-loop μ-loop
+add-i c = search needs
 
 loop-less : tie.Need-loop-less Inv-loop μ-loop
 loop-less c = search needs
 
 loop-again : tie.Need-loop-again Inv-loop μ-loop
+unfolding combs
 loop-again c =
     let l = c .before .before .before in
-    let a = l .before .args in
-    let r = row-fits (l .loop .o) (a .outer) (a .e) (omega arith) in
     let ok : SFits w64 (c .sum-every .result) = record { sfits = c .sum-every .ok } in
-    (search needs, search needs, rw (toZ-ofZ ok, c .sum-every .ensures, l .loop .inv .2) (one-more _ _ _ _ _ (run-cell _ _ _ _ _ _ (omega arith))))
+    (search needs, search needs, rw (toZ-ofZ ok, l .loop .inv .2) (one-more _ _ _ _ _ (rw (l .loop .inv .2) at (c .sum-every .ensures) ∙ comb-kept _ _ _ _ _ _ _ _ _ _ (l .before .pre .1) (omega arith))))
 
 same-length : tie.Need-same-length Inv-loop μ-loop
 same-length c = search needs
 
 returns : tie.Need-returns Inv-loop μ-loop
-returns c = let q : c .before .loop .o ≡ c .before .before .args .outer = omega arith in rw q at (c .before .loop .inv .2)
+returns c = let q : c .before .loop .i ≡ c .before .before .args .n = omega arith in rw q at (c .before .loop .inv .2)
 
-pub sum-runs-spec : {M : Type 1} → statement M
-sum-runs-spec =
+pub sum-each-spec : {M : Type 1} → statement M
+sum-each-spec =
     tie.close
     (tie.spec
     Inv-loop
@@ -85,7 +85,7 @@ sum-runs-spec =
     add-sum
     mul-sum
     slice-set-from-sum
-    add-o
+    add-i
     loop-less
     loop-again
     same-length

@@ -1,0 +1,90 @@
+//! The independent engine over lent memory: a rack's steps, views and gathers with their
+//! refusals from line 10 on.
+
+use compare::choice::Choice;
+use compare::plan::Plan;
+use compare::rack::Rack;
+use compare::steps::{self, Step};
+
+use crate::slots::told;
+
+/// A lawful plan with its list of steps.
+pub struct Engine {
+    pub plan: Plan,
+    pub steps: Vec<Step>,
+}
+
+impl Engine {
+    pub fn new(plan: Plan) -> Engine {
+        let steps = steps::list(&plan);
+        Engine { plan, steps }
+    }
+
+    pub fn total(&self) -> u64 {
+        self.steps.len() as u64
+    }
+
+    pub fn points(&self) -> usize {
+        self.plan.lengths.iter().product::<u64>() as usize
+    }
+
+    pub fn area(&self) -> usize {
+        self.plan.work_area() as usize
+    }
+
+    /// What a step tells; work area and position stand as it leaves them.
+    pub fn step(
+        &self,
+        array: &[i32],
+        work: &mut [i64],
+        position: &mut u64,
+    ) -> Result<[u64; 5], u8> {
+        if array.len() != self.points() {
+            return Err(10);
+        }
+        if work.len() < self.area() {
+            return Err(11);
+        }
+        if *position > self.total() {
+            return Err(12);
+        }
+        let step = self.steps.get(*position as usize);
+        if let Some(&step) = step {
+            let mut rack = Rack::new(&self.plan, array, work.to_vec());
+            rack.take(step);
+            work.copy_from_slice(&rack.work);
+            *position += 1;
+        }
+        Ok(told(step))
+    }
+
+    /// The choice that the position finishes.
+    pub fn finished(&self, work: &[i64], position: u64) -> Result<Choice, u8> {
+        if work.len() < self.area() {
+            return Err(11);
+        }
+        let before = position.checked_sub(1).and_then(|at| self.steps.get(at as usize));
+        match before {
+            Some(&Step::Finish(choice)) => Ok(choice),
+            _ => Err(12),
+        }
+    }
+
+    pub fn view(&self, work: &[i64], position: u64, board: u32) -> Result<Vec<i64>, u8> {
+        let choice = self.finished(work, position)?;
+        if u64::from(board) >= self.plan.boards() {
+            return Err(12);
+        }
+        Ok(self.rack(work).view(choice, u64::from(board)).to_vec())
+    }
+
+    pub fn gather(&self, work: &[i64], position: u64) -> Result<Vec<i64>, u8> {
+        let choice = self.finished(work, position)?;
+        Ok(self.rack(work).gather(choice))
+    }
+
+    /// Views and gathers read no points.
+    fn rack(&self, work: &[i64]) -> Rack<'_> {
+        Rack::new(&self.plan, &[], work.to_vec())
+    }
+}
