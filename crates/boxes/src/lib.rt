@@ -1,4 +1,3 @@
-// Boxes through strides: of the array, summed along an axis, and of a result, to which cells are copied.
+// Boxes through strides: axes merged, and cells copied to the boxes of a result.
 pub mod copies;
 pub mod merging;
-pub mod sums;

@@ -1,11 +1,11 @@
 -- Laws of rows of sums.
 use Prim.Native.Nat.{ℕ, _≤_, _<_, _+_, _*_, _/_, _%_}
-use mathlib.Core.Path.{_≡_, _∙_, refl, ap}
+use mathlib.Core.Path.{_≡_, sym, _∙_, refl, ap}
 use mathlib.Core.Logic.{inl}
 use mathlib.Core.List.{List}
 use native.Mathlib.Omega.{arith}
 use native.Mathlib.Nat.{add-zero, add-mul, mul-le-mul-right}
-use lib.ListN.{getD, set}
+use lib.ListN.{length, getD, set}
 use lib.IntN.{ℤ, pos, _+ℤ_}
 use mir.Facts.{toZ-ofZ, sfits-widen}
 use mir.Syntax.{w32, w64}
@@ -13,8 +13,8 @@ use mir.Val.{SFits, ofZ, toZ}
 use Rattle.cube.specs.Boxes.{sumZ}
 use Rattle.cube.proofs.Sums.{sum-cong}
 use Rattle.cells.specs.Wrapped.{residue, wrapped}
-use Rattle.cells.specs.Rows.{from, every, placed, written, axisSums, rowSums, combs}
-use Rattle.cells.proofs.Writing.{outside, joined, sum-more, row-fits, block-cell, block-more, left-of}
+use Rattle.cells.specs.Rows.{from, every, placed, written, zeros, addedTo, axisSums, rowSums, combs}
+use Rattle.cells.proofs.Writing.{outside, inside, over, same, joined, sum-more, row-fits, block-cell, block-more, left-of}
 
 -- no values yet
 pub comb-none : (l : List ℤ) (at u t i : ℕ) → pos 0 ≡ combs l at u 0 t i
@@ -92,3 +92,23 @@ comb-run l at e i =
     let d : i / 1 ≡ i = omega arith in
     let r : i % 1 ≡ 0 = omega arith in
     rw (d, r) (ap wrapped (sum-cong e (λ m k. let q : at + i * e + m * 1 ≡ at + ((i * e + m) * 1 + 0) = omega arith in ap (λ (j : ℕ). getD l j (pos 0)) q)))
+
+-- row by row: e rows of n neighbours, t apart
+
+-- no row yet
+pub rows-none : (w a : List ℤ) (at t dst n : ℕ) → dst + n ≤ length w → written w dst n zeros ≡ written (written w dst n zeros) dst n (combs a at 1 0 t)
+unfolding zeros
+rows-none w a at t dst n b = sym (over w dst n zeros (combs a at 1 0 t) b ∙ sym (same w dst n zeros (combs a at 1 0 t) (λ i h. comb-none a at 1 t i)))
+
+-- one row more
+pub rows-next : (w a : List ℤ) (at t dst n m : ℕ) → dst + n ≤ length w →
+    let v = written w dst n (combs a at 1 m t) in
+    written v dst n (addedTo v dst (from a (at + m * t))) ≡ written w dst n (combs a at 1 (m + 1) t)
+unfolding addedTo from
+rows-next w a at t dst n m b =
+    over w dst n _ _ b
+    ∙ same w dst n _ _ (λ i h. comb-more a at 1 m t i (at + m * t + i) _ _ (inside w dst n (combs a at 1 m t) i b h) (omega arith) refl)
+
+-- what was cleared before plays no part
+pub rows-all : (w a : List ℤ) (at t dst n e : ℕ) → dst + n ≤ length w → written (written w dst n zeros) dst n (combs a at 1 e t) ≡ written w dst n (combs a at 1 e t)
+rows-all w a at t dst n e b = over w dst n zeros (combs a at 1 e t) b

@@ -124,19 +124,6 @@ row-fits m e n h =
     let r = mul-le-mul-right n q in
     omega (arith, r, add-mul m 1 n, one-mul n)
 
--- no rows yet
-pub no-rows : (w : List ℤ) (at n : ℕ) (p : ℕ → ℤ) → written w at n zeros ≡ written w at n (rowSums p 0 n)
-unfolding zeros rowSums sumZ wrapped residue
-no-rows w at n p = same w at n zeros (rowSums p 0 n) (λ i h. refl)
-
--- one row more, of the values q
-pub rows-more : (w : List ℤ) (at n m : ℕ) (p q : ℕ → ℤ) → at + n ≤ length w → ((i : ℕ) → i < n → q i ≡ p (m * n + i))
-    → written (written w at n (rowSums p m n)) at n (addedTo (written w at n (rowSums p m n)) at q) ≡ written w at n (rowSums p (m + 1) n)
-unfolding addedTo from rowSums
-rows-more w at n m p q b h =
-    over w at n _ _ b
-    ∙ same w at n _ _ (λ i k. sum-more m (λ m. p (m * n + i)) _ (q i) _ (inside w at n (rowSums p m n) i b k) (h i k) refl)
-
 -- cell i of block o is the child's cell o * n + i
 pub block-cell : (o e n i : ℕ) (p q : ℕ → ℤ) → i < n → ((m : ℕ) → m < e → q (m * n + i) ≡ p (o * (e * n) + (m * n + i)))
     → rowSums q e n i ≡ axisSums p e n (o * n + i)
@@ -151,10 +138,6 @@ pub block-more : (w : List ℤ) (at o e n : ℕ) (p q : ℕ → ℤ) → ((i : �
     → written (written w at (o * n) (axisSums p e n)) (at + o * n) n q ≡ written w at ((o + 1) * n) (axisSums p e n)
 block-more w at o e n p q h = rw (add-mul, one-mul) (joined w at (o * n) n (axisSums p e n) q h)
 
--- a cleared row is the sum of no rows
-pub rows-start : (w : List ℤ) (at n : ℕ) (p : ℕ → ℤ) → at + n ≤ length w → written w at n zeros ≡ written (written w at n zeros) at n (rowSums p 0 n)
-rows-start w at n p b = no-rows w at n p ∙ sym (over w at n zeros (rowSums p 0 n) b)
-
 -- counted from two places
 pub from-from : (w : List ℤ) (a b i : ℕ) → from w (a + b) i ≡ from w a (b + i)
 unfolding from
@@ -164,8 +147,3 @@ from-from w a b i = let e : a + b + i ≡ a + (b + i) = omega arith in rw e
 pub left-of : (w : List ℤ) (at n : ℕ) (f : ℕ → ℤ) (a b i : ℕ) → a + (b + i) < at → from (written w at n f) (a + b) i ≡ from w a (b + i)
 unfolding from
 left-of w at n f a b i h = from-from (written w at n f) a b i ∙ outside w at n f (a + (b + i)) (inl h)
-
--- every single cell
-pub every-one : (w a : List ℤ) (src step at n : ℕ) → step ≡ 1 → written w at n (addedTo w at (from a src)) ≡ written w at n (addedTo w at (every a src step))
-unfolding addedTo from every
-every-one w a src step at n q = rw q (same w at n _ _ (λ i h. let e : i ≡ i * 1 = omega arith in ap (λ (k : ℕ). wrapped (getD w (at + i) (pos 0) +ℤ getD a (src + k) (pos 0))) e))

@@ -46,36 +46,13 @@ fn add_point(work: &mut [i64], i: usize, x: i32)
 }
 
 // Adds n points of the array that are neighbours to n cells.
-fn add_points(work: &mut [i64], array: &[i32], src: usize, dst: usize, n: usize)
+pub fn add_points(work: &mut [i64], array: &[i32], src: usize, dst: usize, n: usize)
     requires { ⌜ (src + n ≤ length (now array)) × (dst + n ≤ length (now work)) ⌝ }
     ensures { λ _. ⌜ now (work .exit) ≡ written (now (work .entry)) dst n (addedTo (now (work .entry)) dst (from (now (array .entry)) src)) ⌝ }
 {
     for i in 0..n {
         let x = array[src + i];
         add_point(work, dst + i, x);
-    }
-}
-
-// Adds n points of the array, each step further than the one before, to n cells.
-fn add_every(work: &mut [i64], array: &[i32], src: usize, step: usize, dst: usize, n: usize)
-    requires { ⌜ (src + n * step < length (now array) + step) × (dst + n ≤ length (now work)) ⌝ }
-    ensures { λ _. ⌜ now (work .exit) ≡ written (now (work .entry)) dst n (addedTo (now (work .entry)) dst (every (now (array .entry)) src step)) ⌝ }
-{
-    for i in 0..n {
-        let x = array[src + i * step];
-        add_point(work, dst + i, x);
-    }
-}
-
-// The same, by the faster loop where the points are neighbours.
-pub fn add_line(work: &mut [i64], array: &[i32], src: usize, step: usize, dst: usize, n: usize)
-    requires { ⌜ (src + n * step < length (now array) + step) × (dst + n ≤ length (now work)) ⌝ }
-    ensures { λ _. ⌜ now (work .exit) ≡ written (now (work .entry)) dst n (addedTo (now (work .entry)) dst (every (now (array .entry)) src step)) ⌝ }
-{
-    if step == 1 {
-        add_points(work, array, src, dst, n);
-    } else {
-        add_every(work, array, src, step, dst, n);
     }
 }
 

@@ -14,7 +14,6 @@ use crate::points::extents_of;
 use crate::points::first_cell;
 use crate::points::strides_of;
 use boxes::merging::merge;
-use boxes::sums::sum_box;
 use cells::rows::sum_axis;
 use cube::types::Choice;
 use grid::places::cells_between;
@@ -23,6 +22,7 @@ use grid::places::labels_of;
 use grid::places::next_of;
 use grid::places::region_at;
 use planner::types::Plan;
+use sums::boxes::sum_box;
 
 // Of a choice whose cells stand in the work area: they are (outer, extent, inner) around the axis at place j, which is summed out.
 pub fn form_cells(plan: Plan, choice: Choice, board: u64, j: usize, work: &mut [i64])

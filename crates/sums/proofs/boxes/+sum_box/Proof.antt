@@ -14,13 +14,13 @@ use borrow.Author.Needs.{needs}
 use Prim.Native.Nat.{ℕ, _<_}
 use borrow.Fn.Kinds.{In}
 use borrow.Fn.PlainCycle.{Measures, is, falls, and}
-use Rattle.boxes.proofs.sums.sum_box.Reads as sum-box
-use Rattle.boxes.proofs.sums.sum_box.Kinds as sum-box-kinds
-use Rattle.boxes.proofs.sums.+sum_box.Lts-sum_box as sum-box-lts
-use Rattle.boxes.proofs.sums.sum_combs.Reads as sum-combs-reads
-use Rattle.boxes.proofs.sums.sum_points.Reads as sum-points-reads
-use Rattle.boxes.proofs.sums.+sum_box.{statement}
-use Rattle.boxes.proofs.sums.+sum_box.Tie.{close}
+use Rattle.sums.proofs.boxes.sum_box.Reads as sum-box
+use Rattle.sums.proofs.boxes.sum_box.Kinds as sum-box-kinds
+use Rattle.sums.proofs.boxes.+sum_box.Lts-sum_box as sum-box-lts
+use Rattle.sums.proofs.boxes.sum_line.Reads as sum-line-reads
+use Rattle.sums.proofs.boxes.sum_points.Reads as sum-points-reads
+use Rattle.sums.proofs.boxes.+sum_box.{statement}
+use Rattle.sums.proofs.boxes.+sum_box.Tie.{close}
 
 abbrev μ-sum-box : Measures 4 sum-box-kinds.ps ℕ
 μ-sum-box κs a = a .1 .1 .1 .1 .0
@@ -41,8 +41,8 @@ sum-box-μ-loop work₀ array extents strides m d at n step dst e t to₀ x₀ w
 sum-box-sum-points-requires : (t : ℕ) → sum-box-lts.Need-sum-points-requires (
   sum-points-reads.Asked,
   sum-points-reads.Learnt,
-  sum-combs-reads.Asked,
-  sum-combs-reads.Learnt,
+  sum-line-reads.Asked,
+  sum-line-reads.Learnt,
   sum-box-below t,
   sum-box.Post,
 ) (sum-box-at t) sum-box.Post sum-box-Inv-loop sum-box-μ-loop
@@ -52,8 +52,8 @@ sum-box-sum-points-requires t c κs = let s = c .before .before .before in one-s
 sum-box-mul-sum : (t : ℕ) → sum-box-lts.Need-mul-sum (
   sum-points-reads.Asked,
   sum-points-reads.Learnt,
-  sum-combs-reads.Asked,
-  sum-combs-reads.Learnt,
+  sum-line-reads.Asked,
+  sum-line-reads.Learnt,
   sum-box-below t,
   sum-box.Post,
 ) (sum-box-at t) sum-box.Post sum-box-Inv-loop sum-box-μ-loop
@@ -63,8 +63,8 @@ sum-box-mul-sum t c = search needs
 sum-box-slice-set-from-sum : (t : ℕ) → sum-box-lts.Need-slice-set-from-sum (
   sum-points-reads.Asked,
   sum-points-reads.Learnt,
-  sum-combs-reads.Asked,
-  sum-combs-reads.Learnt,
+  sum-line-reads.Asked,
+  sum-line-reads.Learnt,
   sum-box-below t,
   sum-box.Post,
 ) (sum-box-at t) sum-box.Post sum-box-Inv-loop sum-box-μ-loop
@@ -74,8 +74,8 @@ sum-box-slice-set-from-sum t c = let s = c .before .before .before .before in on
 sum-box-same-length : (t : ℕ) → sum-box-lts.Need-same-length (
   sum-points-reads.Asked,
   sum-points-reads.Learnt,
-  sum-combs-reads.Asked,
-  sum-combs-reads.Learnt,
+  sum-line-reads.Asked,
+  sum-line-reads.Learnt,
   sum-box-below t,
   sum-box.Post,
 ) (sum-box-at t) sum-box.Post sum-box-Inv-loop sum-box-μ-loop
@@ -85,8 +85,8 @@ sum-box-same-length t c = search needs
 sum-box-returns : (t : ℕ) → sum-box-lts.Need-returns (
   sum-points-reads.Asked,
   sum-points-reads.Learnt,
-  sum-combs-reads.Asked,
-  sum-combs-reads.Learnt,
+  sum-line-reads.Asked,
+  sum-line-reads.Learnt,
   sum-box-below t,
   sum-box.Post,
 ) (sum-box-at t) sum-box.Post sum-box-Inv-loop sum-box-μ-loop
@@ -99,8 +99,8 @@ sum-box-returns t c = let s = c .before .before .before .before in
 sum-box-mul-e : (t : ℕ) → sum-box-lts.Need-mul-e (
   sum-points-reads.Asked,
   sum-points-reads.Learnt,
-  sum-combs-reads.Asked,
-  sum-combs-reads.Learnt,
+  sum-line-reads.Asked,
+  sum-line-reads.Learnt,
   sum-box-below t,
   sum-box.Post,
 ) (sum-box-at t) sum-box.Post sum-box-Inv-loop sum-box-μ-loop
@@ -110,8 +110,8 @@ sum-box-mul-e t c = search needs
 sum-box-shared-slice-read-e : (t : ℕ) → sum-box-lts.Need-shared-slice-read-e (
   sum-points-reads.Asked,
   sum-points-reads.Learnt,
-  sum-combs-reads.Asked,
-  sum-combs-reads.Learnt,
+  sum-line-reads.Asked,
+  sum-line-reads.Learnt,
   sum-box-below t,
   sum-box.Post,
 ) (sum-box-at t) sum-box.Post sum-box-Inv-loop sum-box-μ-loop
@@ -121,8 +121,8 @@ sum-box-shared-slice-read-e t c = omega (arith, c .before .before .before .befor
 sum-box-mul-t : (t : ℕ) → sum-box-lts.Need-mul-t (
   sum-points-reads.Asked,
   sum-points-reads.Learnt,
-  sum-combs-reads.Asked,
-  sum-combs-reads.Learnt,
+  sum-line-reads.Asked,
+  sum-line-reads.Learnt,
   sum-box-below t,
   sum-box.Post,
 ) (sum-box-at t) sum-box.Post sum-box-Inv-loop sum-box-μ-loop
@@ -132,30 +132,30 @@ sum-box-mul-t t c = search needs
 sum-box-shared-slice-read-t : (t : ℕ) → sum-box-lts.Need-shared-slice-read-t (
   sum-points-reads.Asked,
   sum-points-reads.Learnt,
-  sum-combs-reads.Asked,
-  sum-combs-reads.Learnt,
+  sum-line-reads.Asked,
+  sum-line-reads.Learnt,
   sum-box-below t,
   sum-box.Post,
 ) (sum-box-at t) sum-box.Post sum-box-Inv-loop sum-box-μ-loop
 sum-box-shared-slice-read-t t c = omega (arith, c .before .before .before .before .before .pre .1 .strides)
 
 -- src/sums.rt:69:9
-sum-box-sum-combs-requires : (t : ℕ) → sum-box-lts.Need-sum-combs-requires (
+sum-box-sum-line-requires : (t : ℕ) → sum-box-lts.Need-sum-line-requires (
   sum-points-reads.Asked,
   sum-points-reads.Learnt,
-  sum-combs-reads.Asked,
-  sum-combs-reads.Learnt,
+  sum-line-reads.Asked,
+  sum-line-reads.Learnt,
   sum-box-below t,
   sum-box.Post,
 ) (sum-box-at t) sum-box.Post sum-box-Inv-loop sum-box-μ-loop
-sum-box-sum-combs-requires t c κs = let s = c .before .before .before .before .before .before .before in row-sums-fit (c .before .if2 .taken) (s .pre .1)
+sum-box-sum-line-requires t c κs = let s = c .before .before .before .before .before .before .before in row-sums-fit (c .before .if2 .taken) (s .pre .1)
 
 -- src/sums.rt:70:9
 sum-box-same-length-2 : (t : ℕ) → sum-box-lts.Need-same-length-2 (
   sum-points-reads.Asked,
   sum-points-reads.Learnt,
-  sum-combs-reads.Asked,
-  sum-combs-reads.Learnt,
+  sum-line-reads.Asked,
+  sum-line-reads.Learnt,
   sum-box-below t,
   sum-box.Post,
 ) (sum-box-at t) sum-box.Post sum-box-Inv-loop sum-box-μ-loop
@@ -165,21 +165,21 @@ sum-box-same-length-2 t c = search needs
 sum-box-returns-2 : (t : ℕ) → sum-box-lts.Need-returns-2 (
   sum-points-reads.Asked,
   sum-points-reads.Learnt,
-  sum-combs-reads.Asked,
-  sum-combs-reads.Learnt,
+  sum-line-reads.Asked,
+  sum-line-reads.Learnt,
   sum-box-below t,
   sum-box.Post,
 ) (sum-box-at t) sum-box.Post sum-box-Inv-loop sum-box-μ-loop
 sum-box-returns-2 t c = let s = c .before .before .before .before .before .before .before .before .before in
     let q = c .before .before .before .if2 .taken in
-    (row-size _ _ _ q, c .before .sum-combs .ensures ∙ row-sums _ _ _ _ _ _ _ _ _ _ q)
+    (row-size _ _ _ q, c .before .sum-line .ensures ∙ row-sums _ _ _ _ _ _ _ _ _ _ q)
 
 -- src/sums.rt:73:5
 sum-box-loop-holds : (t : ℕ) → sum-box-lts.Need-loop-holds (
   sum-points-reads.Asked,
   sum-points-reads.Learnt,
-  sum-combs-reads.Asked,
-  sum-combs-reads.Learnt,
+  sum-line-reads.Asked,
+  sum-line-reads.Learnt,
   sum-box-below t,
   sum-box.Post,
 ) (sum-box-at t) sum-box.Post sum-box-Inv-loop sum-box-μ-loop
@@ -190,8 +190,8 @@ sum-box-loop-holds t c = (search needs, refl, rw (zero-mul, add-zero), rw zero-m
 sum-box-sub-sum-box : (t : ℕ) → sum-box-lts.Need-sub-sum-box (
   sum-points-reads.Asked,
   sum-points-reads.Learnt,
-  sum-combs-reads.Asked,
-  sum-combs-reads.Learnt,
+  sum-line-reads.Asked,
+  sum-line-reads.Learnt,
   sum-box-below t,
   sum-box.Post,
 ) (sum-box-at t) sum-box.Post sum-box-Inv-loop sum-box-μ-loop
@@ -201,8 +201,8 @@ sum-box-sub-sum-box t c = search needs
 sum-box-add-sum-box : (t : ℕ) → sum-box-lts.Need-add-sum-box (
   sum-points-reads.Asked,
   sum-points-reads.Learnt,
-  sum-combs-reads.Asked,
-  sum-combs-reads.Learnt,
+  sum-line-reads.Asked,
+  sum-line-reads.Learnt,
   sum-box-below t,
   sum-box.Post,
 ) (sum-box-at t) sum-box.Post sum-box-Inv-loop sum-box-μ-loop
@@ -217,8 +217,8 @@ sum-box-add-sum-box t c = let l = c .before .before in
 sum-box-mul-sum-box : (t : ℕ) → sum-box-lts.Need-mul-sum-box (
   sum-points-reads.Asked,
   sum-points-reads.Learnt,
-  sum-combs-reads.Asked,
-  sum-combs-reads.Learnt,
+  sum-line-reads.Asked,
+  sum-line-reads.Learnt,
   sum-box-below t,
   sum-box.Post,
 ) (sum-box-at t) sum-box.Post sum-box-Inv-loop sum-box-μ-loop
@@ -233,8 +233,8 @@ sum-box-mul-sum-box t c = let l = c .before .before in
 sum-box-add-sum-box-2 : (t : ℕ) → sum-box-lts.Need-add-sum-box-2 (
   sum-points-reads.Asked,
   sum-points-reads.Learnt,
-  sum-combs-reads.Asked,
-  sum-combs-reads.Learnt,
+  sum-line-reads.Asked,
+  sum-line-reads.Learnt,
   sum-box-below t,
   sum-box.Post,
 ) (sum-box-at t) sum-box.Post sum-box-Inv-loop sum-box-μ-loop
@@ -249,8 +249,8 @@ sum-box-add-sum-box-2 t c = let l = c .before .before in
 sum-box-sum-box-requires : (t : ℕ) → sum-box-lts.Need-sum-box-requires (
   sum-points-reads.Asked,
   sum-points-reads.Learnt,
-  sum-combs-reads.Asked,
-  sum-combs-reads.Learnt,
+  sum-line-reads.Asked,
+  sum-line-reads.Learnt,
   sum-box-below t,
   sum-box.Post,
 ) (sum-box-at t) sum-box.Post sum-box-Inv-loop sum-box-μ-loop
@@ -265,8 +265,8 @@ sum-box-sum-box-requires t c κs = let l = c .before .before in
 sum-box-add-to : (t : ℕ) → sum-box-lts.Need-add-to (
   sum-points-reads.Asked,
   sum-points-reads.Learnt,
-  sum-combs-reads.Asked,
-  sum-combs-reads.Learnt,
+  sum-line-reads.Asked,
+  sum-line-reads.Learnt,
   sum-box-below t,
   sum-box.Post,
 ) (sum-box-at t) sum-box.Post sum-box-Inv-loop sum-box-μ-loop
@@ -281,8 +281,8 @@ sum-box-add-to t c = let l = c .before .before .before .before in
 sum-box-add-x : (t : ℕ) → sum-box-lts.Need-add-x (
   sum-points-reads.Asked,
   sum-points-reads.Learnt,
-  sum-combs-reads.Asked,
-  sum-combs-reads.Learnt,
+  sum-line-reads.Asked,
+  sum-line-reads.Learnt,
   sum-box-below t,
   sum-box.Post,
 ) (sum-box-at t) sum-box.Post sum-box-Inv-loop sum-box-μ-loop
@@ -298,8 +298,8 @@ sum-box-add-x t c = let l = c .before .before .before .before in
 sum-box-loop-less : (t : ℕ) → sum-box-lts.Need-loop-less (
   sum-points-reads.Asked,
   sum-points-reads.Learnt,
-  sum-combs-reads.Asked,
-  sum-combs-reads.Learnt,
+  sum-line-reads.Asked,
+  sum-line-reads.Learnt,
   sum-box-below t,
   sum-box.Post,
 ) (sum-box-at t) sum-box.Post sum-box-Inv-loop sum-box-μ-loop
@@ -309,8 +309,8 @@ sum-box-loop-less t c = search needs
 sum-box-loop-again : (t : ℕ) → sum-box-lts.Need-loop-again (
   sum-points-reads.Asked,
   sum-points-reads.Learnt,
-  sum-combs-reads.Asked,
-  sum-combs-reads.Learnt,
+  sum-line-reads.Asked,
+  sum-line-reads.Learnt,
   sum-box-below t,
   sum-box.Post,
 ) (sum-box-at t) sum-box.Post sum-box-Inv-loop sum-box-μ-loop
@@ -330,8 +330,8 @@ sum-box-loop-again t c = let l = c .before .before .before .before in
 sum-box-sub-result : (t : ℕ) → sum-box-lts.Need-sub-result (
   sum-points-reads.Asked,
   sum-points-reads.Learnt,
-  sum-combs-reads.Asked,
-  sum-combs-reads.Learnt,
+  sum-line-reads.Asked,
+  sum-line-reads.Learnt,
   sum-box-below t,
   sum-box.Post,
 ) (sum-box-at t) sum-box.Post sum-box-Inv-loop sum-box-μ-loop
@@ -341,8 +341,8 @@ sum-box-sub-result t c = search needs
 sum-box-same-length-3 : (t : ℕ) → sum-box-lts.Need-same-length-3 (
   sum-points-reads.Asked,
   sum-points-reads.Learnt,
-  sum-combs-reads.Asked,
-  sum-combs-reads.Learnt,
+  sum-line-reads.Asked,
+  sum-line-reads.Learnt,
   sum-box-below t,
   sum-box.Post,
 ) (sum-box-at t) sum-box.Post sum-box-Inv-loop sum-box-μ-loop
@@ -352,8 +352,8 @@ sum-box-same-length-3 t c = search needs
 sum-box-returns-3 : (t : ℕ) → sum-box-lts.Need-returns-3 (
   sum-points-reads.Asked,
   sum-points-reads.Learnt,
-  sum-combs-reads.Asked,
-  sum-combs-reads.Learnt,
+  sum-line-reads.Asked,
+  sum-line-reads.Learnt,
   sum-box-below t,
   sum-box.Post,
 ) (sum-box-at t) sum-box.Post sum-box-Inv-loop sum-box-μ-loop
@@ -367,8 +367,8 @@ pub +sum-box-spec : {M : Type 1} → statement M
 +sum-box-spec = close μ-sum-box λ t. sum-box-lts.spec (
   sum-points-reads.Asked,
   sum-points-reads.Learnt,
-  sum-combs-reads.Asked,
-  sum-combs-reads.Learnt,
+  sum-line-reads.Asked,
+  sum-line-reads.Learnt,
   sum-box-below t,
   sum-box.Post,
 )
@@ -385,7 +385,7 @@ pub +sum-box-spec : {M : Type 1} → statement M
     (sum-box-shared-slice-read-e t)
     (sum-box-mul-t t)
     (sum-box-shared-slice-read-t t)
-    (sum-box-sum-combs-requires t)
+    (sum-box-sum-line-requires t)
     (sum-box-same-length-2 t)
     (sum-box-returns-2 t)
     (sum-box-loop-holds t)

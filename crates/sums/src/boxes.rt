@@ -6,6 +6,8 @@ ghost use Rattle.cube.specs.Boxes.{sumZ};
 ghost use Rattle.cells.specs.Wrapped.{wrapped};
 ghost use Rattle.cells.specs.Rows.{every, combs, written};
 ghost use Rattle.cells.specs.Strides.{boxSize, boxSums, Sums};
+use cells::rows::add_points;
+use cells::rows::clear;
 use cells::wrapping::wrapping_add;
 
 // The sum of n points of the array, each step further than the one before.
@@ -89,6 +91,40 @@ fn sum_combs(
     }
 }
 
+// The same of neighbours, row by row: as many points apart as a sum has, registers would read each row's memory again and again.
+fn sum_rows(work: &mut [i64], array: &[i32], at: usize, n: usize, t: usize, e: usize, dst: usize)
+    requires { ⌜ (at + n * 1 + e * t < length (now array) + 1 + t) × (0 < e) × (dst + n ≤ length (now work)) ⌝ }
+    ensures { λ _. ⌜ now (work .exit) ≡ written (now (work .entry)) dst n (combs (now (array .entry)) at 1 e t) ⌝ }
+{
+    clear(work, dst, n);
+    for m in 0..e {
+        add_points(work, array, at + m * t, dst, n);
+    }
+}
+
+// The same by whichever way is faster.
+fn sum_line(
+    work: &mut [i64],
+    array: &[i32],
+    at: usize,
+    u: usize,
+    n: usize,
+    t: usize,
+    e: usize,
+    dst: usize,
+)
+    requires { ⌜ (at + n * u + e * t < length (now array) + u + t) × (0 < e) × (dst + n ≤ length (now work)) ⌝ }
+    ensures { λ _. ⌜ now (work .exit) ≡ written (now (work .entry)) dst n (combs (now (array .entry)) at u e t) ⌝ }
+{
+    if u == 1 {
+        if 96 < e {
+            sum_rows(work, array, at, n, t, e, dst);
+            return;
+        }
+    }
+    sum_combs(work, array, at, u, n, t, e, dst);
+}
+
 // The sums of a box, m axes from axis d on, in as many cells from dst on; the n points of a sum stand step apart. Gives their number.
 pub fn sum_box(
     work: &mut [i64],
@@ -114,7 +150,7 @@ pub fn sum_box(
     let e = extents[d];
     let t = strides[d];
     if m == 1 {
-        sum_combs(work, array, at, t, e, step, n, dst);
+        sum_line(work, array, at, t, e, step, n, dst);
         return e;
     }
     let mut to = dst;
