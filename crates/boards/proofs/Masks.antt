@@ -121,7 +121,39 @@ module _ (g : Grid) (ok : Lawful g) where
   pub full-never-finished : timesFinished g (fullMask (g .axes)) (steps g) ≡ 0
   full-never-finished = times-any (fullMask (g .axes)) (let p = pow-pos (g .axes) in (unfold fullMask in omega arith)) ∙ none-summed
 
+  -- nor is any other mask
+  powers-lt : (t : ℕ → Bool) (n : ℕ) → sumN n (λ a. pick (t a) 0 (2 ^ a)) < 2 ^ n
+  unfolding sumN
+  powers-lt t zero = omega arith
+  powers-lt t (suc n) =
+      let i = powers-lt t n in
+      let d : 2 ^ suc n ≡ 2 ^ n + 2 ^ n = omega arith in
+      by (t n) (λ e. rw e (omega arith)) (λ e. rw e (omega arith))
+
+  mask-small : (Z : List ℕ) → maskOf g Z < 2 ^ g .axes
+  unfolding maskOf
+  mask-small Z = powers-lt (λ a. has Z (g .rank a)) (g .axes)
+
+  times-none : (mask : ℕ) → 2 ^ g .axes ≤ mask → (l : List TreeStep) → timesFinished g mask l ≡ 0
+  unfolding timesFinished
+  times-none mask h [] = refl
+  times-none mask h (m ∷ l) = ap₂ _+_ (one m) (times-none mask h l)
+    where
+      one : (m : TreeStep) → finishesMask g mask m ≡ 0
+      one (expand Y) = refl
+      one (transfer Y s r n) = refl
+      one (finish Y) = let k = mask-small Y in rw (ne-eqb (maskOf g Y) mask (λ e. omega arith)) refl
+
+  pub no-other-finished : (mask : ℕ) → fullMask (g .axes) ≤ mask → timesFinished g mask (steps g) ≡ 0
+  no-other-finished mask h =
+      by (eqb mask (fullMask (g .axes)))
+      (λ t. ap (λ m. timesFinished g m (steps g)) (eqb-true mask (fullMask (g .axes)) t) ∙ full-never-finished)
+      (λ t. (let e = eqb-false mask (fullMask (g .axes)) t in let p = pow-pos (g .axes) in let k : 2 ^ g .axes - 1 ≤ mask = (unfold fullMask in h) in let q : (mask ≡ 2 ^ g .axes - 1 → ⊥) = (unfold fullMask in e) in times-none mask (omega (arith, p, k, q)) (steps g)))
+
 -- for every sound plan
+pub no-other-choice : (a : PlanLists) → Sound a → (mask : ℕ) → fullMask (length (a .lengths)) ≤ mask → timesFinished (gridOf a) mask (steps (gridOf a)) ≡ 0
+no-other-choice a ok mask h = no-other-finished (gridOf a) (grid-lawful a ok) mask (unfold gridOf in h)
+
 pub each-choice-once : (a : PlanLists) → Sound a → (mask : ℕ) → mask < fullMask (length (a .lengths)) → timesFinished (gridOf a) mask (steps (gridOf a)) ≡ 1
 each-choice-once a ok mask h = finished-exactly-once (gridOf a) (grid-lawful a ok) mask (unfold gridOf in h)
 

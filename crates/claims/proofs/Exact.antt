@@ -28,7 +28,7 @@ use Rattle.boards.specs.Answers.{Told, expands, transfers, finishes, done, refu
 use Rattle.cube.proofs.Sums.{by}
 use Rattle.planner.proofs.Accepting.{accepted}
 use Rattle.boards.proofs.Counting.{steps-length}
-use Rattle.boards.proofs.Masks.{each-choice-once}
+use Rattle.boards.proofs.Masks.{each-choice-once, no-other-choice}
 use Rattle.boards.proofs.Tallied.{lawful}
 use Rattle.memory.specs.Memory.{read, stepped, ran}
 use Rattle.memory.specs.Entries.{Outcome, outcome, taken, workCells, stepOr, stepRefusal, stepping, viewRefusal, viewOf, viewing, gatherRefusal, gathering}
@@ -39,12 +39,14 @@ use Rattle.memory.specs.Taking.{toldBefore}
 use Rattle.memory.proofs.Stepped.{Passed, passed}
 use Rattle.memory.proofs.Refusing.{step-passed}
 use Rattle.memory.proofs.Lists.{ran-length}
-use Rattle.claims.proofs.Called.{does}
+use Rattle.claims.proofs.Called.{does, found-lt, found-none}
 use Rattle.memory.proofs.Positions.{take-next, gathered-at, viewed-at}
 use Rattle.views.proofs.copying.gather as gather
 use Rattle.views.proofs.copying.gather.Reads as gather-reads
 use Rattle.views.proofs.viewing.view as view
 use Rattle.views.proofs.viewing.view.Reads as view-reads
+use Rattle.views.proofs.viewing.view_refusal as view-refusal
+use Rattle.views.proofs.viewing.view_refusal.Reads as view-refusal-reads
 use Rattle.engine.proofs.stepping.step.{signature, ended}
 use Rattle.engine.proofs.stepping.step.Reads as reads
 
@@ -98,18 +100,9 @@ pub record Reached (q : Plan) (array work₀ : List ℤ) (at : ℕ) (w : List �
   pub paced : length l ≤ length (steps (planGrid q)) → at ≡ length l
   pub ends : length (steps (planGrid q)) ≤ length l → at ≡ length (steps (planGrid q))
   pub newest : (mask : ℕ) (r : List Told) → l ≡ finishes mask ∷ r → finishes mask ≡ toldBefore (planGrid q) at
+  pub stops : (r : List Told) → l ≡ done ∷ r → at ≡ length (steps (planGrid q))
 
-found-lt : (l : List TreeStep) (at : ℕ) (m : TreeStep) → getElem? l at ≡ some m → at < length l
-found-lt [] at m e = absurd (let z : _≡_ {A = ℕ} 0 1 = cc in omega arith)
-found-lt (s ∷ l) zero m e = omega arith
-found-lt (s ∷ l) (suc at) m e = let i = found-lt l at m e in omega arith
-
-found-none : (l : List TreeStep) (at : ℕ) → getElem? l at ≡ none → length l ≤ at
-found-none [] at e = omega arith
-found-none (s ∷ l) zero e = absurd (let z : _≡_ {A = ℕ} 0 1 = cc in omega arith)
-found-none (s ∷ l) (suc at) e = let i = found-none l at e in omega arith
-
--- WHAT A RUN STARTS FROM: a plan, whose arrays have eight slots each, an array and a work area that step accepts at position 0
+-- WHAT A RUN STARTS FROM: a plan, an array and a work area that step accepts at position 0. That a plan's arrays have eight slots is what their types say.
 pub record Begins (q : Plan) (array work₀ : List ℤ) : Type 0 where
   pub lengths : length (q .lengths) ≡ 8
   pub order : length (q .order) ≡ 8
@@ -139,6 +132,14 @@ module _ (q : Plan) (array work₀ : List ℤ) (begins : Begins q array work₀)
       newest-is : {mask : ℕ} {r : List Told} → t ∷ l ≡ finishes mask ∷ r → finishes mask ≡ t
       newest-is s = cc
 
+      done-is : {r : List Told} → t ∷ l ≡ done ∷ r → t ≡ done
+      done-is s = cc
+
+      done-never : (m : TreeStep) → telling g m ≡ done → ⊥
+      done-never (expand Y) e = let z : _≡_ {A = ℕ} 0 1 = cc in omega arith
+      done-never (transfer Y s r n) e = let z : _≡_ {A = ℕ} 0 1 = cc in omega arith
+      done-never (finish Y) e = let z : _≡_ {A = ℕ} 0 1 = cc in omega arith
+
       said-more : (mask : ℕ) → timesSaid mask (t ∷ l) ≡ finishesOnce mask t + timesSaid mask l
       said-more mask = unfold timesSaid in refl
 
@@ -156,6 +157,7 @@ module _ (q : Plan) (array work₀ : List ℤ) (begins : Begins q array work₀)
             paced = λ h. absurd (let y = k .paced (omega arith) in omega arith);
             ends = λ h. omega arith;
             newest = λ mask r s. absurd (let d : finishes mask ≡ done = newest-is s ∙ a in let z : _≡_ {A = ℕ} 0 1 = cc in omega arith);
+            stops = λ r s. omega arith;
           })
       go (some m) f e =
           let a : t ≡ telling g m = ap (λ (x : Outcome). x .says) e ∙ (unfold taken in refl) in
@@ -170,6 +172,7 @@ module _ (q : Plan) (array work₀ : List ℤ) (begins : Begins q array work₀)
             paced = λ h. (let y = k .paced (omega arith) in omega arith);
             ends = λ h. by-calls h i;
             newest = λ mask r s. newest-is s ∙ a ∙ (unfold toldBefore toldAt in rw f refl);
+            stops = λ r s. absurd (done-never m (sym a ∙ done-is s));
           })
         where
           by-calls : length (steps g) ≤ suc (length l) → at < length (steps g) → suc at ≡ length (steps g)
@@ -194,6 +197,7 @@ module _ (q : Plan) (array work₀ : List ℤ) (begins : Begins q array work₀)
     paced = λ h. refl;
     ends = λ h. omega arith;
     newest = λ mask r s. absurd (let z : _≡_ {A = ℕ} 0 1 = cc in omega arith);
+    stops = λ r s. absurd (let z : _≡_ {A = ℕ} 0 1 = cc in omega arith);
   }
   run-reached (one-more {at} {w} {l} before κs a r s h e f v p) =
       let k = run-reached before in
@@ -209,11 +213,22 @@ module _ (q : Plan) (array work₀ : List ℤ) (begins : Begins q array work₀)
   whole (s ∷ l) zero e = absurd (omega arith)
   whole (s ∷ l) (suc n) e = ap (λ r. s ∷ r) (whole l n (omega arith))
 
-  -- EACH CHOICE BUT THE FULL ONE IS FINISHED EXACTLY ONCE, by the answers of T calls or more
-  pub each-once : {at : ℕ} {w : List ℤ} {l : List Told} → Run q array work₀ at w l → stepCount (listsOf q) ≤ length l → (mask : ℕ) → mask < fullMask (length (listsOf q .lengths)) → timesSaid mask l ≡ 1
+  -- T CALLS OR MORE END A RUN, and so does an answer `done`.
+  pub ended-by-calls : {at : ℕ} {w : List ℤ} {l : List Told} → Run q array work₀ at w l → stepCount (listsOf q) ≤ length l → at ≡ stepCount (listsOf q)
+  ended-by-calls run h = let c = count in run-reached run .ends (omega arith) ∙ c
+
+  pub ended-by-done : {at : ℕ} {w : List ℤ} {l : List Told} → Run q array work₀ at w (done ∷ l) → at ≡ stepCount (listsOf q)
+  ended-by-done {at} {w} {l} run = run-reached run .stops l refl ∙ count
+
+  -- EACH CHOICE BUT THE FULL ONE IS FINISHED EXACTLY ONCE, by the answers of a run that has ended,
+  pub each-once : {at : ℕ} {w : List ℤ} {l : List Told} → Run q array work₀ at w l → at ≡ stepCount (listsOf q) → (mask : ℕ) → mask < fullMask (length (listsOf q .lengths)) → timesSaid mask l ≡ 1
   each-once {at} run e mask h =
-      let k = run-reached run in
-      k .said mask ∙ ap (timesFinished g mask) (whole (steps g) at (k .ends (let c = count in omega arith))) ∙ each-choice-once (listsOf q) (ok .sound) mask h
+      run-reached run .said mask ∙ ap (timesFinished g mask) (whole (steps g) at (e ∙ sym count)) ∙ each-choice-once (listsOf q) (ok .sound) mask h
+
+  -- and nothing else ever is.
+  pub none-else : {at : ℕ} {w : List ℤ} {l : List Told} → Run q array work₀ at w l → at ≡ stepCount (listsOf q) → (mask : ℕ) → fullMask (length (listsOf q .lengths)) ≤ mask → timesSaid mask l ≡ 0
+  none-else {at} run e mask h =
+      run-reached run .said mask ∙ ap (timesFinished g mask) (whole (steps g) at (e ∙ sym count)) ∙ no-other-choice (listsOf q) (ok .sound) mask h
 
   -- what a finish names
   named : (at mask : ℕ) → finishes mask ≡ toldBefore g at → Named g at mask
@@ -227,7 +242,7 @@ module _ (q : Plan) (array work₀ : List ℤ) (begins : Begins q array work₀)
       go (some (transfer Y s r n)) f e = absurd (let z : _≡_ {A = ℕ} 0 1 = cc in omega arith)
       go (some (finish Y)) f e = record { set = Y; there = unfold finishedAt in ap finishedBy f; mask-is = (let y : mask ≡ maskOf g Y = cc in sym y) }
 
-  -- AFTER A CALL THAT ANSWERS A FINISH, over points of 32 bits
+  -- AFTER A CALL THAT ANSWERS A FINISH. That points are at most 2^31 in size is what their type, i32, says.
   module _ (small : (i : ℕ) → natAbs (read array i) ≤ 2 ^ 31) {at : ℕ} {w : List ℤ} {l : List Told} {mask : ℕ} (run : Run q array work₀ at w (finishes mask ∷ l)) where
     kept-room : workCells (listsOf q) ≤ length w
     kept-room = let n : length w ≡ length work₀ = ap length (run-reached run .there) ∙ ran-length g (lawful q ok) axes-some array (take at (steps g)) work₀ in let r = first-call .room in omega arith
@@ -258,6 +273,14 @@ module _ (q : Plan) (array work₀ : List ℤ) (begins : Begins q array work₀)
               ∙ gathered-at (listsOf q) (ok .sound) (ok .lengths .axes) array work₀ (unfold workCells in first-call .room) small (ok .lengths .small) at Y f
               ∙ ap (totals (listsOf q .lengths) (read array)) d,
         )
+
+    -- NO VIEW OF A BOARD OF THE RACK IS REFUSED
+    pub viewed-granted : (κs : Lfts 1) (a : ArgsD view-refusal.signature κs) (r : ResD view-refusal.signature κs) (s : AtExit view-refusal.ended κs) → view-refusal-reads.Learnt κs a r s → a .0 ≡ q → now (a .1 .0) ≡ w → a .1 .1 .0 ≡ at → a .1 .1 .1 .0 < boardCount (listsOf q) → r ≡ 0
+    viewed-granted κs a r s h e v p n =
+        h
+        ∙ ap₂ (λ q x. viewRefusal q (length x) (a .1 .1 .0) (a .1 .1 .1 .0)) e v
+        ∙ ap (λ at. viewRefusal q (length w) at (a .1 .1 .1 .0)) p
+        ∙ sym (view-passed q (length w) at (a .1 .1 .1 .0) (first-call .plan) kept-room kept-within (let f = name .there in rw f refl) n)
 
     -- WHAT VIEW SHOWS: on a lead of the choice the exact totals at the positions of its cells, on another board nothing
     pub viewed-run : (κs : Lfts 1) (a : ArgsD view.signature κs) (r : ResD view.signature κs) (s : AtExit view.ended κs) → view-reads.Learnt κs a r s → a .0 ≡ q → now (a .1 .0) ≡ w → a .1 .1 .0 ≡ at → a .1 .1 .1 .0 < boardCount (listsOf q)
