@@ -28,8 +28,8 @@ use Rattle.boards.proofs.Refusing.{held-given}
 use Rattle.planning.proofs.Best.{Runnable, planned-runs}
 use Rattle.planning.proofs.planning.plan as plan
 use Rattle.planning.proofs.planning.plan.Reads as plan-reads
-use Rattle.rack.proofs.holds.held as held
-use Rattle.rack.proofs.holds.held.Reads as held-reads
+use Rattle.holds.proofs.holds.held as held
+use Rattle.holds.proofs.holds.held.Reads as held-reads
 use Rattle.memory.specs.Entries.{Outcome, outcome, taken, stepOr, stepRefusal, stepping}
 use Rattle.memory.proofs.Claimed.{Lent, reached, reported, claim-within, claim-moved, claim-all, claim-held}
 use Rattle.engine.proofs.stepping.step.{signature, ended}

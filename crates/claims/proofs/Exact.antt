@@ -41,8 +41,8 @@ use Rattle.memory.proofs.Refusing.{step-passed}
 use Rattle.memory.proofs.Lists.{ran-length}
 use Rattle.claims.proofs.Called.{does, found-lt, found-none}
 use Rattle.memory.proofs.Positions.{take-next, gathered-at, viewed-at}
-use Rattle.views.proofs.copying.gather as gather
-use Rattle.views.proofs.copying.gather.Reads as gather-reads
+use Rattle.gathers.proofs.copying.gather as gather
+use Rattle.gathers.proofs.copying.gather.Reads as gather-reads
 use Rattle.views.proofs.viewing.view as view
 use Rattle.views.proofs.viewing.view.Reads as view-reads
 use Rattle.views.proofs.viewing.view_refusal as view-refusal

@@ -10,9 +10,6 @@ ghost use Rattle.planner.specs.Plans.{listsOf};
 ghost use Rattle.boards.specs.Finding.{planGrid, summedIn};
 ghost use Rattle.memory.specs.Memory.{read};
 ghost use Rattle.memory.specs.Expansions.{oneChild, Forms};
-use crate::points::extents_of;
-use crate::points::first_cell;
-use crate::points::strides_of;
 use boxes::merging::merge;
 use cells::rows::sum_axis;
 use cube::types::Choice;
@@ -22,6 +19,9 @@ use grid::places::labels_of;
 use grid::places::next_of;
 use grid::places::region_at;
 use planner::types::Plan;
+use strides::points::extents_of;
+use strides::points::first_cell;
+use strides::points::strides_of;
 use sums::boxes::sum_box;
 
 // Of a choice whose cells stand in the work area: they are (outer, extent, inner) around the axis at place j, which is summed out.

@@ -1,5 +1,4 @@
 // What steps write to the work area.
 pub mod expansions;
 pub mod forming;
-pub mod points;
 pub mod transfers;

@@ -12,8 +12,8 @@ use boards::types::Held;
 use boards::types::Step;
 use checks::plan_refusal;
 use grid::counts::step_count;
+use holds::holds::held;
 use planner::types::Plan;
-use rack::holds::held;
 use rack::steps::step_at;
 
 // Eight bytes of a slice.

@@ -7,7 +7,7 @@ ghost use Rattle.probe.specs.Runs.{ran, running, showRefusal, showing};
 use crate::racks::plan_from;
 use crate::racks::put_step;
 use engine::stepping::step;
-use views::copying::gather;
+use gathers::copying::gather;
 use views::viewing::view;
 use views::viewing::view_refusal;
 

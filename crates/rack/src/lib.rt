@@ -1,2 +1,2 @@
-pub mod holds;
+// The step at a position.
 pub mod steps;

@@ -1,3 +1,2 @@
-// The entries that show and gather a finished choice.
-pub mod copying;
+// The entries that show a finished choice.
 pub mod viewing;

@@ -25,9 +25,9 @@ use Rattle.boxes.proofs.merging.merge.Reads as merge-reads
 use Rattle.sums.proofs.boxes.sum_box.Reads as sum-box-reads
 use Rattle.grid.proofs.places.labels_of.Reads as labels-of-reads
 use Rattle.grid.proofs.places.region_at.Reads as region-at-reads
-use Rattle.moves.proofs.points.extents_of.Reads as extents-of-reads
-use Rattle.moves.proofs.points.first_cell.Reads as first-cell-reads
-use Rattle.moves.proofs.points.strides_of.Reads as strides-of-reads
+use Rattle.strides.proofs.points.extents_of.Reads as extents-of-reads
+use Rattle.strides.proofs.points.first_cell.Reads as first-cell-reads
+use Rattle.strides.proofs.points.strides_of.Reads as strides-of-reads
 
 -- src/forming.rt:54:9
 labels-of-requires : tie.Need-labels-of-requires

@@ -1,0 +1,142 @@
+// The entry that copies a finished choice into a lent slice.
+ghost use mathlib.Core.Path.{_≡_};
+ghost use mathlib.Core.Bool.{true};
+ghost use Prim.Native.Nat.{_<_};
+ghost use lib.ListN.{length};
+ghost use Rattle.planner.specs.Plans.{listsOf};
+ghost use Rattle.boards.specs.Grids.{boards, lead};
+ghost use Rattle.boards.specs.Finding.{planGrid, summedIn};
+ghost use Rattle.memory.specs.Memory.{read};
+ghost use Rattle.memory.specs.Gather.{gathered};
+ghost use Rattle.memory.specs.Entries.{gatherRefusal, gathering};
+ghost use Rattle.memory.specs.Copies.{oneBoard, Copying};
+use boards::types::Step;
+use boxes::copies::put_box;
+use boxes::merging::merge;
+use checks::plan_refusal;
+use cube::types::Choice;
+use engine::refusals::area_of;
+use grid::counts::steps_of;
+use grid::places::is_lead;
+use grid::places::labels_of;
+use grid::places::next_of;
+use grid::places::region_at;
+use planner::types::Plan;
+use strides::points::extents_of;
+use strides::points::first_cell;
+use strides::points::strides_of;
+use views::viewing::step_before;
+
+// A lead's cells, which stand side by side in its region, go to their places in the result.
+pub fn copy_lead(plan: Plan, choice: Choice, board: u64, work: &[i64], result: &mut [i64])
+    requires { ⌜ (Copying plan (choice .mask) (length (now work)) (length (now result))) × (board < boards (planGrid plan)) × (lead (planGrid plan) (summedIn plan (choice .mask)) board ≡ true) ⌝ }
+    ensures { λ _. ⌜ now (result .exit) ≡ oneBoard (listsOf plan .lengths) (planGrid plan) (summedIn plan (choice .mask)) board (read (now (work .entry))) (now (result .entry)) ⌝ }
+{
+    let labels = labels_of(plan, board);
+    let mut extents = extents_of(plan, choice, labels);
+    let mut strides = strides_of(plan, choice);
+    let at = first_cell(plan, choice, labels);
+    let next = next_of(plan, choice);
+    let src = region_at(plan, board, next - 1);
+    let n = plan.axes as usize;
+    // Fewer and longer axes: put_box then copies long rows.
+    let k = merge(&mut extents, &mut strides, n);
+    put_box(
+        result,
+        work,
+        &extents,
+        &strides,
+        n - k,
+        k,
+        at as usize,
+        src as usize,
+    );
+}
+
+// A board's cells, if it has any.
+pub fn copy_board(plan: Plan, choice: Choice, board: u64, work: &[i64], result: &mut [i64])
+    requires { ⌜ (Copying plan (choice .mask) (length (now work)) (length (now result))) × (board < boards (planGrid plan)) ⌝ }
+    ensures { λ _. ⌜ now (result .exit) ≡ oneBoard (listsOf plan .lengths) (planGrid plan) (summedIn plan (choice .mask)) board (read (now (work .entry))) (now (result .entry)) ⌝ }
+{
+    if is_lead(plan, choice, board) {
+        copy_lead(plan, choice, board, work, result);
+    }
+}
+
+// The boards' cells, one board after another.
+pub fn copy_all(plan: Plan, choice: Choice, work: &[i64], result: &mut [i64])
+    requires { ⌜ Copying plan (choice .mask) (length (now work)) (length (now result)) ⌝ }
+    ensures { λ _. ⌜ now (result .exit) ≡ gathered (listsOf plan .lengths) (planGrid plan) (summedIn plan (choice .mask)) (read (now (work .entry))) ⌝ }
+{
+    let boards = 1u64 << plan.p;
+    let mut b: u64 = 0;
+    while b < boards {
+        copy_board(plan, choice, b, work, result);
+        b += 1;
+    }
+}
+
+// 3 to 6, 8, 9, 11, 12, 13.
+pub fn gather_refusal(plan: Plan, work: u64, position: u64, result: u64) -> u8
+    ensures { λ r. ⌜ r ≡ gatherRefusal plan work position result ⌝ }
+{
+    let refusal = plan_refusal(plan);
+    if refusal != 0 {
+        return refusal;
+    }
+    if work < area_of(plan) {
+        return 11;
+    }
+    if steps_of(plan) < position {
+        return 12;
+    }
+    match step_before(plan, position) {
+        Step::Finish(choice) => {
+            let lengths = plan.lengths;
+            if result != choice.cells(lengths, plan.axes) {
+                return 13;
+            }
+            return 0;
+        }
+        Step::Expand(_) => {
+            return 12;
+        }
+        Step::Transfer(_) => {
+            return 12;
+        }
+        Step::Done => {
+            return 12;
+        }
+        Step::Refused(_) => {
+            return 12;
+        }
+    }
+}
+
+// The cells of the choice that the position finishes, row-major in axis order, into the result: gives 0, or the refusal that leaves the result as it was.
+pub fn gather(plan: Plan, work: &[i64], position: u64, result: &mut [i64]) -> u8
+    ensures { λ r. ⌜ (r ≡ gatherRefusal plan (length (now (work .entry))) position (length (now (result .entry)))) × (now (result .exit) ≡ gathering plan (now (work .entry)) position (now (result .entry))) ⌝ }
+{
+    let refusal = gather_refusal(plan, work.len() as u64, position, result.len() as u64);
+    if refusal != 0 {
+        return refusal;
+    }
+    match step_before(plan, position) {
+        Step::Finish(choice) => {
+            copy_all(plan, choice, work, result);
+            return 0;
+        }
+        Step::Expand(_) => {
+            return 0;
+        }
+        Step::Transfer(_) => {
+            return 0;
+        }
+        Step::Done => {
+            return 0;
+        }
+        Step::Refused(_) => {
+            return 0;
+        }
+    }
+}

@@ -1,0 +1,2 @@
+// The entry that gathers a finished choice.
+pub mod copying;

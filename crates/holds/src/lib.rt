@@ -1,0 +1,2 @@
+// What a board holds.
+pub mod holds;

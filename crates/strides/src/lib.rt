@@ -1,0 +1,2 @@
+// A board's box of a choice's cells.
+pub mod points;
