@@ -38,7 +38,7 @@ pub fn planning_refusal(lengths: [u32; 8], axes: u8, p: u8) -> u8
 }
 
 // A refusal, and nothing of a plan beside it.
-fn refused(refusal: u8) -> Planned
+pub fn refused(refusal: u8) -> Planned
     requires { ⌜ 0 < refusal ⌝ }
     ensures { λ r. ⌜ ((a : PlanLists) → r ≡ plannedAs refusal a) ⌝ }
 {

@@ -1,0 +1,2 @@
+// What the program asks of a tape before it runs.
+pub mod judging;
