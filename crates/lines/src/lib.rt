@@ -2,3 +2,4 @@
 pub mod fields;
 pub mod numbers;
 pub mod printing;
+pub mod reports;

@@ -57,44 +57,50 @@ unfoldable pub planLine : PlanLists → List ℕ
 planLine a = text "plan" ++ fields (numbers (length (a .lengths) ∷ a .p ∷ moved a ∷ added a ∷ shareSize a ∷ []))
 
 -- "dim: axis, length, exponent, in plan order": the m lines from place d on
-unfoldable pub dimLines : PlanLists → ℕ → ℕ → List ℕ
+unfoldable pub dimLine : PlanLists → ℕ → List ℕ
+dimLine a d = text "dim" ++ fields (numbers (axisAt a d ∷ lengthAt a d ∷ exponentAt a d ∷ []))
+
+unfoldable pub dimLines : PlanLists → ℕ → ℕ → List (List ℕ)
 dimLines a zero d = []
-dimLines a (suc m) d = text "dim" ++ (fields (numbers (axisAt a d ∷ lengthAt a d ∷ exponentAt a d ∷ [])) ++ dimLines a m (d + 1))
+dimLines a (suc m) d = dimLine a d ∷ dimLines a m (d + 1)
 
 -- "group: mask, cells"
 unfoldable pub groupLine : List ℕ → (ℕ → ℤ) → ℕ → List ℕ
 groupLine ds array mask = text "group" ++ fields (decimal mask ∷ signeds (totals ds array mask))
 
 -- "it prints only at finish steps and passes over the rest"
-unfoldable pub lineOf : PlanLists → (ℕ → ℤ) → TreeStep → List ℕ
-lineOf a array (expand Y) = []
-lineOf a array (transfer Y s r n) = []
-lineOf a array (finish Y) = groupLine (a .lengths) array (maskOf (gridOf a) Y)
-
-unfoldable pub groupLines : PlanLists → (ℕ → ℤ) → List TreeStep → List ℕ
+unfoldable pub groupLines : PlanLists → (ℕ → ℤ) → List TreeStep → List (List ℕ)
 groupLines a array [] = []
-groupLines a array (m ∷ l) = lineOf a array m ++ groupLines a array l
-
-abbrev pub groupOf : TreeStep → ℕ
-groupOf (expand Y) = 0
-groupOf (transfer Y s r n) = 0
-groupOf (finish Y) = 1
+groupLines a array (expand Y ∷ l) = groupLines a array l
+groupLines a array (transfer Y s r n ∷ l) = groupLines a array l
+groupLines a array (finish Y ∷ l) = groupLine (a .lengths) array (maskOf (gridOf a) Y) ∷ groupLines a array l
 
 -- "end: groups printed"
-unfoldable pub groups : List TreeStep → ℕ
-groups [] = 0
-groups (m ∷ l) = groupOf m + groups l
-
 unfoldable pub endLine : ℕ → List ℕ
 endLine n = text "end" ++ fields (decimal n ∷ [])
 
-unfoldable pub report : PlanLists → (ℕ → ℤ) → List TreeStep → List ℕ
-report a array l = planLine a ++ (dimLines a (length (a .lengths)) 0 ++ (groupLines a array l ++ endLine (groups l)))
+unfoldable pub refusedLine : ℕ → List ℕ
+refusedLine n = text "refused" ++ fields (decimal n ∷ [])
+
+-- the report, line by line: the plan, its axes, the groups, the end
+unfoldable pub ended : List (List ℕ) → List (List ℕ)
+ended groups = groups ++ (endLine (length groups) ∷ [])
+
+unfoldable pub report : PlanLists → (ℕ → ℤ) → List TreeStep → List (List ℕ)
+report a array l = planLine a ∷ (dimLines a (length (a .lengths)) 0 ++ ended (groupLines a array l))
 
 -- "The program prints `refused N` and nothing else."
-unfoldable pub reportOr : ℕ → Campaign → List ℕ
+unfoldable pub reportOr : ℕ → Campaign → List (List ℕ)
 reportOr zero c = let a = planFor c in report a (read (c .points)) (steps (gridOf a))
-reportOr (suc n) c = text "refused" ++ fields (decimal (suc n) ∷ [])
+reportOr (suc n) c = refusedLine (suc n) ∷ []
+
+-- the lines printed for a tape, and the bytes: the lines one after the other
+unfoldable pub printedLines : List ℕ → List (List ℕ)
+printedLines tape = reportOr (programRefusal tape) (orEmpty (campaign tape))
+
+unfoldable pub joined : List (List ℕ) → List ℕ
+joined [] = []
+joined (l ∷ r) = l ++ joined r
 
 unfoldable pub printed : List ℕ → List ℕ
-printed tape = reportOr (programRefusal tape) (orEmpty (campaign tape))
+printed tape = joined (printedLines tape)
