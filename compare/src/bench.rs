@@ -16,29 +16,36 @@ struct Case {
     tape: Vec<u8>,
 }
 
-/// A run is repeated this often or this long, and the shortest counts.
-const RUNS: usize = 20;
-const TIME: Duration = Duration::from_millis(400);
+/// Runs are repeated this often or this long, and the shortest counts.
+const RUNS: usize = 80;
+const TIME: Duration = Duration::from_millis(1200);
 
-/// Prints the table; true when the program prints the same totals.
+/// Prints the table, and the largest ratio as its last line; true when the program prints
+/// the same totals.
 pub fn run(other: Option<&str>) -> io::Result<bool> {
     let own = std::env::current_exe()?;
-    let mut same = true;
+    let (mut same, mut largest) = (true, 0.0_f64);
     println!("{:<42}{:>10}{:>12}{:>12}{:>8}", "campaign", "printed", "compare", "program", "p / c");
     for Case { name, tape } in cases() {
         let expected = totals::printed(&tape);
-        let (own_time, _) = timed(Command::new(&own).arg("totals"), &tape)?;
-        print!("{name:<42}{:>10}{:>9.2} ms", expected.len(), milliseconds(own_time));
-        if let Some(other) = other {
-            let (time, output) = timed(&mut Command::new(other), &tape)?;
-            let ratio = time.as_secs_f64() / own_time.as_secs_f64();
-            print!("{:>9.2} ms{ratio:>8.3}", milliseconds(time));
-            if output != expected {
+        let mut commands = vec![Command::new(&own)];
+        commands[0].arg("totals");
+        commands.extend(other.map(Command::new));
+        let runs = timed(&mut commands, &tape)?;
+        print!("{name:<42}{:>10}{:>9.2} ms", expected.len(), milliseconds(runs[0].shortest));
+        if let Some(run) = runs.get(1) {
+            let ratio = run.shortest.as_secs_f64() / runs[0].shortest.as_secs_f64();
+            largest = largest.max(ratio);
+            print!("{:>9.2} ms{ratio:>8.3}", milliseconds(run.shortest));
+            if run.output != expected {
                 print!("  differs");
                 same = false;
             }
         }
         println!();
+    }
+    if other.is_some() {
+        println!("largest ratio {largest:.3}");
     }
     Ok(same)
 }
@@ -47,19 +54,28 @@ fn milliseconds(time: Duration) -> f64 {
     time.as_secs_f64() * 1e3
 }
 
-/// The shortest of some runs, and what the program printed.
-fn timed(command: &mut Command, tape: &[u8]) -> io::Result<(Duration, Vec<u8>)> {
+/// The shortest of some runs, and what was printed.
+struct Timed {
+    shortest: Duration,
+    output: Vec<u8>,
+}
+
+/// The commands run in turn, so that whatever else goes on slows all of them alike.
+fn timed(commands: &mut [Command], tape: &[u8]) -> io::Result<Vec<Timed>> {
     let begun = Instant::now();
-    let (mut shortest, mut output) = (Duration::MAX, Vec::new());
+    let none = |_: &Command| Timed { shortest: Duration::MAX, output: Vec::new() };
+    let mut runs: Vec<Timed> = commands.iter().map(none).collect();
     for _ in 0..RUNS {
-        let started = Instant::now();
-        output = program::run(command, tape)?.output;
-        shortest = shortest.min(started.elapsed());
+        for (command, run) in commands.iter_mut().zip(&mut runs) {
+            let started = Instant::now();
+            run.output = program::run(command, tape)?.output;
+            run.shortest = run.shortest.min(started.elapsed());
+        }
         if begun.elapsed() > TIME {
             break;
         }
     }
-    Ok((shortest, output))
+    Ok(runs)
 }
 
 /// The most points that the program takes for so many axes and such a p.

@@ -4,10 +4,14 @@ use std::{env, io};
 
 use compare::judge::Refusal;
 use compare::plan::{planned, Plan};
-use compare::{bench, check, listed, make, price, table, totals};
+use compare::{bench, check, description, listed, make, price, show, table, totals};
 
 const USAGE: &str = "\
 usage: compare totals                   tape on standard input, totals on standard output
+       compare tape                     campaign as text on standard input, its tape on
+                                        standard output
+       compare show                     report on standard input, its tables on standard
+                                        output
        compare plan P LENGTH..          the planner's plan and its prices
        compare tapes SEED N DIR         write N made tapes, each with what is printed for it
        compare check PROGRAM SEED N     run a program on N made tapes and compare
@@ -15,6 +19,17 @@ usage: compare totals                   tape on standard input, totals on standa
        compare table TOPIC              cases for the definitions, as an antt module:
                                         tapes (with their output), steps (with what is
                                         held) or memory (after each step)
+
+A report is what is printed for a tape. A campaign as text, for example:
+
+    # two fault loops on three line sections, errors in centimetres
+    lengths 2 3
+    p 1
+    1 -2 3          # points, row-major in axis order, the last axis fastest
+    4 5*2           # 5*2 is the point 5 twice
+
+Blanks, commas, semicolons and line ends part numbers, # starts a comment. A CSV file from
+a spreadsheet will do; its lines may end in empty fields.
 ";
 
 /// `None` for arguments that make no command.
@@ -22,6 +37,8 @@ fn run(words: &[&str]) -> Option<io::Result<bool>> {
     let done = |result: io::Result<()>| Some(result.map(|()| true));
     match *words {
         ["totals"] => done(totals::run(io::stdin().lock(), io::stdout().lock())),
+        ["tape"] => done(description::run(io::stdin().lock(), io::stdout().lock())),
+        ["show"] => done(show::run(io::stdin().lock(), io::stdout().lock())),
         ["plan", p, ref lengths @ ..] => {
             let lengths: Option<Vec<u64>> =
                 lengths.iter().map(|length| length.parse().ok()).collect();

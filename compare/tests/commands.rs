@@ -1,44 +1,20 @@
 //! The commands as processes.
 
+mod common;
+
 use std::fs;
-use std::os::unix::fs::PermissionsExt;
-use std::path::PathBuf;
-use std::process::{Command, Output};
 
+use common::process::{compare, temporary, text};
 use compare::{make, table, totals};
-
-const PROGRAM: &str = env!("CARGO_BIN_EXE_compare");
-
-fn compare(words: &[&str]) -> Output {
-    Command::new(PROGRAM).args(words).output().unwrap()
-}
-
-fn text(bytes: &[u8]) -> String {
-    String::from_utf8(bytes.to_vec()).unwrap()
-}
-
-fn temporary(name: &str) -> PathBuf {
-    PathBuf::from(env!("CARGO_TARGET_TMPDIR")).join(name)
-}
-
-/// A program to be checked, as a shell script.
-fn script(name: &str, body: &str) -> String {
-    let path = temporary(name);
-    fs::write(&path, format!("#!/bin/sh\n{body}\n")).unwrap();
-    fs::set_permissions(&path, fs::Permissions::from_mode(0o755)).unwrap();
-    path.to_str().unwrap().to_string()
-}
-
-fn last_line(output: &Output) -> String {
-    text(&output.stdout).lines().last().unwrap().to_string()
-}
 
 #[test]
 fn bad_arguments_get_the_usage() {
-    let commands: [&[&str]; 9] = [
+    let commands: [&[&str]; 11] = [
         &[],
         &["sum"],
         &["totals", "x"],
+        &["tape", "x"],
+        &["show", "x"],
         &["plan"],
         &["plan", "x", "2"],
         &["plan", "1", "-2"],
@@ -62,35 +38,6 @@ fn plan_prints_the_papers_cases() {
     assert_eq!(printed(&["plan", "1", "2", "3"]), p2);
     assert_eq!(printed(&["plan", "3", "3", "2"]), "refused 7\n");
     assert_eq!(printed(&["plan", "0", "65536"]), "refused 4\n");
-}
-
-#[test]
-fn check_passes_the_same_program() {
-    let program = script("same", &format!("exec {PROGRAM} totals"));
-    let output = compare(&["check", &program, "1", "200"]);
-    assert_eq!(last_line(&output), "200 passed, 0 failed");
-    assert!(output.status.success() && output.stderr.is_empty());
-    assert!(
-        text(&output.stdout).contains("accepted") && text(&output.stdout).contains("refused 11")
-    );
-}
-
-#[test]
-fn check_finds_what_differs() {
-    let wrong = [
-        ("one_answer", "cat >/dev/null; echo refused 2".to_string()),
-        ("on_error", format!("{PROGRAM} totals; echo x >&2")),
-        ("no_feed", format!("printf %s \"$({PROGRAM} totals)\"")),
-        ("stopped", format!("{PROGRAM} totals; kill -9 $$")),
-        ("mute", "exit 0".to_string()),
-    ];
-    for (name, body) in wrong {
-        let output = compare(&["check", &script(name, &body), "1", "40"]);
-        assert_eq!(output.status.code(), Some(1), "{name}");
-        assert!(!last_line(&output).ends_with(" 0 failed"), "{name}: {}", last_line(&output));
-    }
-    let nowhere = compare(&["check", "/no/such/program", "1", "3"]);
-    assert_eq!(last_line(&nowhere), "0 passed, 3 failed");
 }
 
 #[test]

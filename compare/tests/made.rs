@@ -1,11 +1,12 @@
 //! Made tapes: what their maker says is due, against the engine.
 
-use std::collections::BTreeMap;
+use std::collections::{BTreeMap, BTreeSet};
 
+use compare::check::coverage::{self, Outcome};
 use compare::make::{kind_count, made, Due, Made};
 use compare::random::Random;
 use compare::tape::LONGEST_TAPE;
-use compare::totals::printed;
+use compare::totals::{accepted, printed};
 
 const COUNT: u64 = 3000;
 
@@ -39,6 +40,32 @@ fn every_outcome_is_made_often() {
     let numbers = [1, 2, 3, 4, 5, 6, 7, 10, 11].map(Some);
     assert_eq!(outcomes, [&[None][..], &numbers].concat());
     assert!(counts.values().all(|&count| count >= COUNT / 40), "{counts:?}");
+}
+
+/// So many tapes as `compare check` asks for bring up every outcome, whatever the seed.
+#[test]
+fn every_outcome_and_shape_is_made() {
+    for seed in [14, 15] {
+        let outcomes: Vec<Outcome> =
+            (0..5000).map(|index| Outcome::of(&made(seed, index).tape)).collect();
+        for (outcome, count) in coverage::counts(&outcomes) {
+            assert!(count >= 25, "seed {seed}, {outcome}: {count}");
+        }
+    }
+}
+
+/// Each number of axes comes with each p.
+#[test]
+fn every_pair_of_axes_and_p_is_made() {
+    let mut pairs = BTreeSet::new();
+    for index in 0..20_000 {
+        let Made { kind, tape, .. } = made(16, index);
+        if kind == "any axes, any p" {
+            let campaign = accepted(&tape).unwrap_or_else(|_| panic!("tape {index}"));
+            pairs.insert((campaign.plan.axes(), campaign.plan.p));
+        }
+    }
+    assert_eq!(pairs.len(), 8 * 11);
 }
 
 /// Kinds in turn: a damaged byte must matter somewhere and not everywhere.

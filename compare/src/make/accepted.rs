@@ -20,6 +20,10 @@ pub const KINDS: &[Kind] = &[
     ("three axes", Accepted(|random| of_axes(random, 3))),
     ("six axes", Accepted(|random| of_axes(random, 6))),
     ("eight axes", Accepted(|random| of_axes(random, 8))),
+    ("any axes, any p", Accepted(any_p)),
+    ("any axes, any p", Accepted(any_p)),
+    ("any axes, any p", Accepted(any_p)),
+    ("any axes, any p", Accepted(any_p)),
     ("one long axis", Accepted(one_long_axis)),
     ("one long axis among ones", Accepted(one_long_axis_among_ones)),
     ("axes of length 1", Accepted(ones)),
@@ -44,6 +48,13 @@ fn any(random: &mut Random) -> Tape {
 
 fn of_axes(random: &mut Random, axes: u64) -> Tape {
     let shape = shapes::of_axes(random, axes);
+    campaign::tape(random, &shape)
+}
+
+/// Each number of axes with each p, equally often.
+fn any_p(random: &mut Random) -> Tape {
+    let (axes, p) = (random.between(1, 8), random.between(0, 10));
+    let shape = shapes::divided(random, axes as usize, p as u8);
     campaign::tape(random, &shape)
 }
 

@@ -54,7 +54,7 @@ fn too_long(random: &mut Random) -> Tape {
 }
 
 fn too_long_any_bytes(random: &mut Random) -> Tape {
-    let bytes = random.between(LONGEST_TAPE as u64 + 1, 300_000);
+    let bytes = random.between(LONGEST_TAPE as u64 + 1, 600_000);
     (0..bytes).map(|_| random.next() as u8).collect()
 }
 

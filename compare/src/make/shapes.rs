@@ -48,6 +48,25 @@ pub fn of_axes(random: &mut Random, axes: u64) -> Shape {
     }
 }
 
+/// Powers of two that divide for 2^p boards, some of them made longer. With none made
+/// longer the program takes them all.
+pub fn divided(random: &mut Random, axes: usize, p: u8) -> Shape {
+    loop {
+        let mut shape = Shape { lengths: vec![1; axes], p };
+        for _ in 0..p {
+            shape.lengths[random.index(axes)] *= 2;
+        }
+        for _ in 0..random.below(4) {
+            let axis = random.index(axes);
+            let by = random.between(1, u64::from(shape.lengths[axis])) as u16;
+            shape = shape.longer(axis, by);
+        }
+        if shape.is_taken() {
+            return shape;
+        }
+    }
+}
+
 /// At least 64 boards over two axes or more.
 pub fn many_boards(random: &mut Random) -> Shape {
     loop {

@@ -1,5 +1,7 @@
 #![allow(dead_code)] // Each test file uses a part of it.
 
+pub mod process;
+
 use compare::plan::Plan;
 use compare::random::Random;
 use compare::search;

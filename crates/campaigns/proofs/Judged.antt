@@ -44,17 +44,17 @@ tells (suc n) c f e h = absurd (let k : f .refusal ≡ suc n = ap (λ f. f .refu
 not-three : _≡_ {A = ℕ} 3 0 → ⊥
 not-three e = omega arith
 
-planning-numbered : (ds : List ℕ) (p : ℕ) → Numbered (planningChecks ds p)
+pub planning-numbered : (ds : List ℕ) (p : ℕ) → Numbered (planningChecks ds p)
 unfolding planningChecks lengthChecks
 planning-numbered ds p = (omega arith, (omega arith, (omega arith, (omega arith, (omega arith, tt)))))
 
 -- planning's answer carries its refusal
-refusal-of : (n : ℕ) (a : PlanLists) → plannedAs n a .refusal ≡ n
+pub refusal-of : (n : ℕ) (a : PlanLists) → plannedAs n a .refusal ≡ n
 unfolding plannedAs
 refusal-of zero a = refl
 refusal-of (suc n) a = refl
 
-plan-of : (n : ℕ) (a : PlanLists) → n ≡ 0 → plannedAs n a .plan ≡ slotted a
+pub plan-of : (n : ℕ) (a : PlanLists) → n ≡ 0 → plannedAs n a .plan ≡ slotted a
 unfolding plannedAs
 plan-of zero a e = refl
 plan-of (suc n) a e = absurd (omega arith)

@@ -46,13 +46,14 @@ module _ (ds : List ℕ) (n mask : ℕ) (ok : Countable ds n) where
   unfolding cells
   count-start = let q = ok .each in let z : n - 0 ≡ n = omega arith in rw (one-mul, z, ← q)
 
-  pub cells-small : cells ds mask ≤ pointLimit
+  pub cells-le : cells ds mask ≤ points ds
   unfolding cells points
-  cells-small =
-      let s = ok .small in
+  cells-le =
       let q = ok .each in
-      let r = product-le (keptLength ds mask) (lengthOf ds) (length ds) 0 (λ i l r. kept-le ds mask i (ok .some i (omega arith))) in
-      le-trans r s
+      product-le (keptLength ds mask) (lengthOf ds) (length ds) 0 (λ i l r. kept-le ds mask i (ok .some i (omega arith)))
+
+  pub cells-small : cells ds mask ≤ pointLimit
+  cells-small = le-trans cells-le (ok .small)
 
   module _ (d count : ℕ) (h : d < n) (e : count * left d ≡ cells ds mask) where
     pub count-kept : keeps mask d ≡ true → count * lengthOf ds d * left (d + 1) ≡ cells ds mask

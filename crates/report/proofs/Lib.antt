@@ -1,2 +1,4 @@
 pub mod Tapes
 pub mod Cases
+pub mod Groups
+pub mod Lined

@@ -6,5 +6,5 @@ use Rattle.tape.specs.Computing as tape
 use Rattle.memory.specs.Computing as engine
 
 unfoldable pub computing : ℕ
-unfolding Text.text Text.digits Text.decimal Text.signed Printed.tooLarge Printed.programChecks Printed.programRefusal Printed.fields Printed.numbers Printed.signeds Printed.planLine Printed.dimLine Printed.dimLines Printed.groupLine Printed.groupLines Printed.endLine Printed.refusedLine Printed.ended Printed.report Printed.reportOr Printed.printedLines Printed.joined Printed.printed tape.computing engine.computing
+unfolding Text.text Text.digits Text.decimal Text.signed Printed.tooLarge Printed.programChecks Printed.programRefusal Printed.fields Printed.numbers Printed.signeds Printed.planLine Printed.dimLine Printed.dimLines Printed.groupLine Printed.groupLines Printed.endLine Printed.refusedLine Printed.ended Printed.report Printed.reportOr Printed.printedLines Printed.lineAt Printed.joined Printed.printed tape.computing engine.computing
 computing = 0

@@ -98,6 +98,10 @@ reportOr (suc n) c = refusedLine (suc n) ∷ []
 unfoldable pub printedLines : List ℕ → List (List ℕ)
 printedLines tape = reportOr (programRefusal tape) (orEmpty (campaign tape))
 
+-- line k, counted from 0; nothing past the last
+unfoldable pub lineAt : List ℕ → ℕ → List ℕ
+lineAt tape k = getD (printedLines tape) k []
+
 unfoldable pub joined : List (List ℕ) → List ℕ
 joined [] = []
 joined (l ∷ r) = l ++ joined r

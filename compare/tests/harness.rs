@@ -1,0 +1,189 @@
+//! `compare check`: programs that are right, and programs that are wrong in one way.
+
+mod common;
+
+use std::io::{self, Write};
+use std::process::Command;
+use std::time::{Duration, Instant};
+
+use common::process::{compare, last_line, script, text, PROGRAM};
+use compare::check::coverage::{self, Outcome};
+use compare::pieces::Pieces;
+use compare::program;
+use compare::random::Random;
+
+/// Cases besides the tapes: three tapes into four outputs.
+const SHUT: usize = 12;
+
+/// Passed and failed, by the last line.
+fn counts(output: &std::process::Output) -> (usize, usize) {
+    let line = last_line(output);
+    let (passed, failed) = line.split_once(" passed, ").unwrap();
+    (passed.parse().unwrap(), failed.strip_suffix(" failed").unwrap().parse().unwrap())
+}
+
+/// This program tells on standard error what the other keeps to itself: that its output failed.
+fn same_program() -> String {
+    format!("exec {PROGRAM} totals 2>/dev/null")
+}
+
+#[test]
+fn the_same_program_passes() {
+    let program = script("same", &same_program());
+    let output = compare(&["check", &program, "1", "200"]);
+    assert_eq!(last_line(&output), format!("{} passed, 0 failed", 200 + SHUT));
+    assert!(output.status.success() && output.stderr.is_empty());
+    let told = text(&output.stdout);
+    assert!(told.contains("refused 11") && told.contains("accepted, axes 8"));
+}
+
+#[test]
+fn what_differs_is_found() {
+    let same = same_program();
+    let wrong = [
+        ("one_answer", "cat >/dev/null; echo refused 2".to_string()),
+        ("on_error", format!("{PROGRAM} totals 2>/dev/null; echo x >&2")),
+        ("no_feed", format!("printf %s \"$({PROGRAM} totals)\"")),
+        ("stopped", format!("{PROGRAM} totals 2>/dev/null; kill -9 $$")),
+        ("mute", "exit 0".to_string()),
+        ("longest_minus_one", format!("head -c 65536 | ({same})")),
+        ("one_sum_off", format!("{PROGRAM} totals 2>/dev/null | sed 's/^group 0 .*/group 0 7/'")),
+    ];
+    for (name, body) in wrong {
+        let output = compare(&["check", &script(name, &body), "1", "100"]);
+        assert_eq!(output.status.code(), Some(1), "{name}");
+        let (passed, failed) = counts(&output);
+        assert!(failed > 0 && passed + failed == 100 + SHUT, "{name}: {}", last_line(&output));
+    }
+    let nowhere = compare(&["check", "/no/such/program", "1", "3"]);
+    assert_eq!(last_line(&nowhere), format!("0 passed, {} failed", 3 + SHUT));
+}
+
+/// A program that takes the first read for the whole tape is right on short tapes that come
+/// at once.
+#[test]
+fn one_read_is_not_enough() {
+    let body = format!("dd bs=70000 count=1 status=none | {PROGRAM} totals 2>/dev/null");
+    let output = compare(&["check", &script("one_read", &body), "1", "300"]);
+    let told = text(&output.stdout);
+    let in_pieces = |line: &str| line.starts_with("seed 1, ") && !line.ends_with(" pieces 1");
+    assert!(told.lines().any(in_pieces), "{told}");
+}
+
+#[test]
+fn a_failed_output_is_judged() {
+    let counted = |name: &str, body: &str| {
+        let output = compare(&["check", &script(name, body), "1", "20"]);
+        (counts(&output), text(&output.stdout))
+    };
+    let (aloud, told) = counted("aloud", &format!("exec {PROGRAM} totals"));
+    assert!(aloud.0 >= 20 && aloud.1 >= 3, "{told}");
+    assert!(told.contains("output full, a short report\n  on standard error: "), "{told}");
+    let (aborts, told) =
+        counted("aborts", &format!("{PROGRAM} totals 2>/dev/null || kill -ABRT $$"));
+    assert!(aborts.0 >= 20 && aborts.1 >= 3, "{told}");
+    assert!(told.contains("output full, a short report\n  stopped: signal: 6"), "{told}");
+    let (broken, told) =
+        counted("broken_pipe", &format!("{PROGRAM} totals 2>/dev/null || kill -PIPE $$"));
+    assert_eq!(broken, (20 + SHUT, 0), "{told}");
+}
+
+#[test]
+fn a_program_that_hangs_is_stopped() {
+    let bodies = ["exec sleep 30", "exec >&- 2>&-; exec sleep 30"];
+    for body in bodies {
+        let begun = Instant::now();
+        let mut command = Command::new("sh");
+        command.args(["-c", body]);
+        let tape = Pieces::whole(&[0x41; 300_000]);
+        let answer = program::run_within(Duration::from_millis(300), &mut command, tape);
+        assert_eq!(answer.err().unwrap().kind(), io::ErrorKind::TimedOut, "{body}");
+        assert!(begun.elapsed() < Duration::from_secs(10), "{body}");
+    }
+}
+
+/// The pipe breaks on the writer's side.
+#[test]
+fn a_program_may_stop_reading() {
+    let mut command = Command::new("sh");
+    command.args(["-c", "head -c 10 >/dev/null; echo refused 1"]);
+    let random = &mut Random::new(3);
+    for tape in [Pieces::whole(&[0; 900_000]), Pieces::drawn(random, &[0; 300_000])] {
+        let answer = program::run_within(program::LONGEST_RUN, &mut command, tape).unwrap();
+        assert_eq!(answer.output, b"refused 1\n");
+        assert!(answer.errors.is_empty() && answer.status.success());
+    }
+}
+
+/// Keeps each write apart.
+#[derive(Default)]
+struct Writes(Vec<Vec<u8>>);
+
+impl Write for &mut Writes {
+    fn write(&mut self, bytes: &[u8]) -> io::Result<usize> {
+        self.0.push(bytes.to_vec());
+        Ok(bytes.len())
+    }
+
+    fn flush(&mut self) -> io::Result<()> {
+        Ok(())
+    }
+}
+
+fn written(seed: u64, tape: &[u8]) -> Vec<Vec<u8>> {
+    let mut writes = Writes::default();
+    Pieces::drawn(&mut Random::new(seed), tape).write(&mut writes).unwrap();
+    writes.0
+}
+
+#[test]
+fn pieces_make_up_the_tape() {
+    let tape: Vec<u8> = (0..20_000_u32).map(|number| number as u8).collect();
+    let mut longest = Vec::new();
+    for seed in 0..60 {
+        let pieces = written(seed, &tape);
+        assert_eq!(pieces.concat(), tape);
+        assert_eq!(pieces, written(seed, &tape));
+        longest.extend(pieces.iter().map(Vec::len).max());
+    }
+    let (least, most) = (longest.iter().min().unwrap(), longest.iter().max().unwrap());
+    assert!(*least == 1 && (2_000..=7_000).contains(most), "{least} {most}");
+    assert!(written(1, &[]).is_empty());
+}
+
+#[test]
+fn pieces_are_read_one_by_one() {
+    let tape = [7; 3_000];
+    let first_read = |seed| {
+        let mut command = Command::new("dd");
+        command.args(["bs=70000", "count=1", "status=none"]);
+        let tape = Pieces::drawn(&mut Random::new(seed), &tape);
+        program::run_within(program::LONGEST_RUN, &mut command, tape).unwrap().output.len()
+    };
+    assert!((0..40).any(|seed| first_read(seed) < tape.len()));
+}
+
+/// Each way that a campaign can come out, once.
+fn every_outcome() -> Vec<Outcome> {
+    let refused = [1, 2, 3, 4, 5, 6, 7, 10, 11].map(Outcome::Refused);
+    let axes = (1..=8).map(|axes| Outcome::Accepted { axes, p: 0 });
+    let p = (1..=10).map(|p| Outcome::Accepted { axes: 1, p });
+    refused.into_iter().chain(axes).chain(p).collect()
+}
+
+#[test]
+fn an_outcome_that_does_not_come_up_fails() {
+    let failed = |outcomes: &[Outcome]| {
+        coverage::cases(outcomes).iter().filter(|case| case.fault.is_some()).count()
+    };
+    let every = every_outcome();
+    assert_eq!((coverage::cases(&every).len(), failed(&every)), (28, 0));
+    assert_eq!(failed(&[]), 28);
+    for left_out in 0..every.len() {
+        let mut others = every.clone();
+        let outcome = others.remove(left_out);
+        // Eight of them have p 0, and eleven have one axis.
+        let elsewhere = outcome == Outcome::Accepted { axes: 1, p: 0 };
+        assert_eq!(failed(&others), usize::from(!elsewhere), "{outcome:?}");
+    }
+}

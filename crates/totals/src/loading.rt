@@ -1,0 +1,32 @@
+// The points of a tape.
+ghost use mathlib.Core.Path.{_≡_};
+ghost use Prim.Native.Nat.{_≤_};
+ghost use lib.ListN.{length, take};
+ghost use Rattle.campaigns.specs.Judging.{judging};
+ghost use Rattle.totals.specs.Standing.{Small, campaignOf};
+use engine::refusals::points_of;
+use planner::types::Planned;
+use reader::fill;
+
+// Reads every point, which fits its type.
+pub fn bounded(points: &[i32])
+    ensures { λ _. ⌜ Small (now (points .entry)) ⌝ }
+{
+    let mut i: usize = 0;
+    while i < points.len() {
+        let _point = points[i];
+        i += 1;
+    }
+}
+
+// Puts the points at the start of the slice, and gives how many there are; none of a tape that is refused.
+pub fn load(tape: &[u8], judged: Planned, points: &mut [i32]) -> usize
+    requires { ⌜ (judged ≡ judging (now tape)) × (length (now points) ≡ 8192) ⌝ }
+    ensures { λ r. ⌜ (r ≤ length (now (points .exit))) × (judged .refusal ≡ 0 → take r (now (points .exit)) ≡ campaignOf (now (tape .entry)) .points) ⌝ }
+{
+    if judged.refusal != 0 {
+        return 0;
+    }
+    fill(tape, points);
+    points_of(judged.plan) as usize
+}
