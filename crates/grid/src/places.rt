@@ -13,7 +13,7 @@ ghost use Rattle.boards.specs.Finding.{planGrid, summedIn, leads, leadLabel, La
 use crate::counts::parts_of;
 use cube::types::Choice;
 use planner::types::Plan;
-use prices::pricing::region_start;
+use prices::pricing::region_of;
 
 // Where portion l of the axis at place d starts; the last one ends where the next would start.
 pub fn start_of(plan: Plan, d: usize, l: u64) -> u64
@@ -101,18 +101,20 @@ fn lead_may(plan: Plan, choice: Choice, d: usize, l: u64) -> bool
     choice.keeps(plan.order[d])
 }
 
-// Has a board label 0 on every axis that a choice sums out?
+// Has a board label 0 on every axis that a choice sums out? The last axis first, up to the first label that says no.
 pub fn is_lead(plan: Plan, choice: Choice, board: u64) -> bool
     requires { ⌜ (planRefusal plan ≡ 0) × (board < boards (planGrid plan)) ⌝ }
     ensures { λ r. ⌜ r ≡ lead (planGrid plan) (summedIn plan (choice .mask)) board ⌝ }
 {
-    let labels = labels_of(plan, board);
-    let mut d: usize = 0;
-    while d < plan.axes as usize {
-        if !lead_may(plan, choice, d, labels[d]) {
+    let mut rest = board;
+    let mut d = plan.axes as usize;
+    while 0 < d {
+        d -= 1;
+        let parts = parts_of(plan, d);
+        if !lead_may(plan, choice, d, rest % parts) {
             return false;
         }
-        d += 1;
+        rest = rest / parts;
     }
     true
 }
@@ -169,7 +171,8 @@ pub fn share_of(plan: Plan) -> u64
     requires { ⌜ planRefusal plan ≡ 0 ⌝ }
     ensures { λ r. ⌜ (r ≡ share (planGrid plan)) × (r ≤ pointLimit * plan .axes) ⌝ }
 {
-    region_start(plan, plan.axes as usize)
+    let regions = region_of(plan, 0);
+    regions.share
 }
 
 // Where region i of a board's share starts in the work area.
@@ -177,7 +180,6 @@ pub fn region_at(plan: Plan, board: u64, i: usize) -> u64
     requires { ⌜ (planRefusal plan ≡ 0) × (board < 1024) × (i ≤ plan .axes) ⌝ }
     ensures { λ r. ⌜ (r ≡ index (planGrid plan) board i 0) × (r < 2 ^ 38) ⌝ }
 {
-    let share = share_of(plan);
-    let start = region_start(plan, i);
-    board * share + start
+    let regions = region_of(plan, i);
+    board * regions.share + regions.start
 }

@@ -1,10 +1,10 @@
 ghost use mathlib.Core.Path.{_≡_};
-ghost use Prim.Native.Nat.{ℕ, _-_, _*_, _^_, _≤_, _<_};
+ghost use Prim.Native.Nat.{ℕ, _+_, _-_, _*_, _^_, _≤_, _<_};
 ghost use lib.ListN.{getD};
 ghost use Rattle.cube.specs.Limits.{axisLimit, powerLimit, pointLimit};
-ghost use Rattle.cube.specs.Choices.{lengthOf};
+ghost use Rattle.cube.specs.Boxes.{pick};
 ghost use Rattle.cube.specs.Portions.{ceiling};
-ghost use Rattle.cube.specs.Tree.{sent, regionSize, regionStart};
+ghost use Rattle.cube.specs.Tree.{sent, regionStart};
 ghost use Rattle.planner.specs.Plans.{mostAt, listsOf};
 ghost use Rattle.planner.specs.Refusals.{planRefusal};
 ghost use Rattle.planner.specs.Answers.{pricesOf, pricedReply, pricing};
@@ -64,40 +64,46 @@ fn choices_from(
 // ceil(length / 2^k), the most positions that a portion has.
 fn most_of(length: u32, k: u8) -> u64
     requires { ⌜ k ≤ powerLimit ⌝ }
-    ensures { λ r. ⌜ r ≡ ceiling length (2 ^ k) ⌝ }
+    ensures { λ r. ⌜ (r ≡ ceiling length (2 ^ k)) × (r < 2 ^ 33) ⌝ }
 {
     let parts = 1u64 << k;
     ((length as u64) + (parts - 1)) / parts
 }
 
-// Region i of a share: the product of the most positions on each other axis.
-fn region_size(lengths: [u32; 8], exponents: [u8; 8], n: usize, i: usize) -> u64
-    requires { ⌜ Priceable lengths exponents n ⌝ }
-    ensures { λ r. ⌜ (r ≡ regionSize n (mostOf lengths exponents) i) × (r ≤ pointLimit) ⌝ }
-{
-    let mut size: u64 = 1;
-    let mut d: usize = 0;
-    while d < n {
-        if d != i {
-            size = size * most_of(lengths[d], exponents[d]);
-        }
-        d += 1;
-    }
-    size
+// Where a region of a share starts, and how many cells the share has.
+pub struct Region {
+    pub start: u64,
+    pub share: u64,
 }
 
-// The regions before region i; all of them together are A.
-fn regions_before(lengths: [u32; 8], exponents: [u8; 8], n: usize, i: usize) -> u64
-    requires { ⌜ (Priceable lengths exponents n) × (i ≤ n) ⌝ }
-    ensures { λ r. ⌜ (r ≡ regionStart n (mostOf lengths exponents) i) × (r ≤ pointLimit * i) ⌝ }
+// The sum so far, with one axis more in each product, and the product that leaves it out if its region is counted.
+fn with_axis(sum: u64, most: u64, all: u64, counted: bool) -> u64
+    requires { ⌜ sum * most + all < 2 ^ 64 ⌝ }
+    ensures { λ r. ⌜ r ≡ pick counted (sum * most + all) (sum * most) ⌝ }
 {
-    let mut cells: u64 = 0;
-    let mut r: usize = 0;
-    while r < i {
-        cells += region_size(lengths, exponents, n, r);
-        r += 1;
+    if counted {
+        return sum * most + all;
     }
-    cells
+    sum * most
+}
+
+// The regions before region i, and all of them, which are A: region r is the product of the most positions on each other axis.
+fn regions_to(lengths: [u32; 8], exponents: [u8; 8], n: usize, i: usize) -> Region
+    requires { ⌜ (Priceable lengths exponents n) × (i ≤ n) ⌝ }
+    ensures { λ r. ⌜ (r .start ≡ regionStart n (mostOf lengths exponents) i) × (r .share ≡ regionStart n (mostOf lengths exponents) n) × (r .start ≤ pointLimit * i) × (r .share ≤ pointLimit * n) ⌝ }
+{
+    let mut start: u64 = 0;
+    let mut share: u64 = 0;
+    let mut all: u64 = 1;
+    let mut d: usize = 0;
+    while d < n {
+        let most = most_of(lengths[d], exponents[d]);
+        start = with_axis(start, most, all, d < i);
+        share = with_axis(share, most, all, true);
+        all = all * most;
+        d += 1;
+    }
+    Region { start, share }
 }
 
 // Exponents in plan order.
@@ -127,18 +133,18 @@ pub fn prices(plan: Plan) -> Prices
     let lengths = in_order(by_axis, order, n);
     let exponents = exponents_along(cuts, order, n);
     let sums = choices_from(lengths, exponents, n, 0, 0, 1, 0);
-    let share = regions_before(lengths, exponents, n, n);
+    let regions = regions_to(lengths, exponents, n, n);
     Prices {
         moved: sums.moved,
         added: sums.added,
-        share,
+        share: regions.share,
     }
 }
 
-// Where region i of a share starts. The region after the last would start where the share ends: at A.
-pub fn region_start(plan: Plan, i: usize) -> u64
+// Where region i of a share starts, and A.
+pub fn region_of(plan: Plan, i: usize) -> Region
     requires { ⌜ (planRefusal plan ≡ 0) × (i ≤ plan .axes) ⌝ }
-    ensures { λ r. ⌜ (r ≡ regionStart (plan .axes) (mostAt (listsOf plan)) i) × (r ≤ pointLimit * i) ⌝ }
+    ensures { λ r. ⌜ (r .start ≡ regionStart (plan .axes) (mostAt (listsOf plan)) i) × (r .share ≡ regionStart (plan .axes) (mostAt (listsOf plan)) (plan .axes)) × (r .start ≤ pointLimit * i) × (r .share ≤ pointLimit * plan .axes) ⌝ }
 {
     let n = plan.axes as usize;
     let by_axis = plan.lengths;
@@ -146,7 +152,7 @@ pub fn region_start(plan: Plan, i: usize) -> u64
     let order = plan.order;
     let lengths = in_order(by_axis, order, n);
     let exponents = exponents_along(cuts, order, n);
-    regions_before(lengths, exponents, n, i)
+    regions_to(lengths, exponents, n, i)
 }
 
 // The public entry: a plan's prices, or its refusal.

@@ -1,3 +1,6 @@
+use Prim.Native.Nat.{_+_, _-_, _^_}
+use mathlib.Core.Path.{refl}
+use native.Mathlib.Nat.{div-le-self}
 use native.Mathlib.Omega.{arith}
 use lib.ListN.{length}
 use Rattle.cube.specs.Portions.{ceiling}
@@ -19,7 +22,11 @@ div-result c = let p = power-small (c .args .k) (c .pre) in rw (shifted (c .args
 
 returns : tie.Need-returns
 unfolding ceiling
-returns c = rw (shifted (c .args .k) (c .pre))
+returns c =
+    let p = power-small (c .args .k) (c .pre) in
+    let f = c .fits .length .fits in
+    let d = div-le-self (c .args .length + (2 ^ c .args .k - 1)) (2 ^ c .args .k) in
+    rw (shifted (c .args .k) (c .pre)) (refl, omega arith)
 
 pub most-of-spec : {M : Type 1} → statement M
 most-of-spec = tie.close (tie.spec shl-parts sub-result add-result div-result returns)

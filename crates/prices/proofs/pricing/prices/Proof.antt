@@ -18,11 +18,11 @@ exponents-along-requires c κs = let s = c .before .before .before .before .befo
 choices-from-requires : tie.Need-choices-from-requires
 choices-from-requires c κs = let s = c .before .before .before .before .before .before in let g = s .good .0 .1 .1 .1 .1 in let ok = passed-accepted (s .args .plan) (g .0 .1 .0 .1) (g .1 .0 .1 .0 .1) (g .1 .1 .0 .1 .0 .1) (s .pre) in undecided (c .before .in-order .result) (c .exponents-along .result) (s .args .plan .axes) (priceable (s .args .plan) ok (c .before .in-order .result) (c .exponents-along .result) (table-slot (s .args .plan .axes) _ (c .before .in-order .result) (few-axes ok) (c .before .in-order .ensures)) (c .exponents-along .ensures))
 
-regions-before-requires : tie.Need-regions-before-requires
-regions-before-requires c κs = let s = c .before .before .before .before .before .before .before in let g = s .good .0 .1 .1 .1 .1 in let ok = passed-accepted (s .args .plan) (g .0 .1 .0 .1) (g .1 .0 .1 .0 .1) (g .1 .1 .0 .1 .0 .1) (s .pre) in (priceable (s .args .plan) ok (c .before .before .in-order .result) (c .before .exponents-along .result) (table-slot (s .args .plan .axes) _ (c .before .before .in-order .result) (few-axes ok) (c .before .before .in-order .ensures)) (c .before .exponents-along .ensures), le-refl _)
+regions-to-requires : tie.Need-regions-to-requires
+regions-to-requires c κs = let s = c .before .before .before .before .before .before .before in let g = s .good .0 .1 .1 .1 .1 in let ok = passed-accepted (s .args .plan) (g .0 .1 .0 .1) (g .1 .0 .1 .0 .1) (g .1 .1 .0 .1 .0 .1) (s .pre) in (priceable (s .args .plan) ok (c .before .before .in-order .result) (c .before .exponents-along .result) (table-slot (s .args .plan .axes) _ (c .before .before .in-order .result) (few-axes ok) (c .before .before .in-order .ensures)) (c .before .exponents-along .ensures), le-refl _)
 
 returns : tie.Need-returns
-returns c = let s = c .before .before .before .before .before .before .before .before in let g = s .good .0 .1 .1 .1 .1 in let ok = passed-accepted (s .args .plan) (g .0 .1 .0 .1) (g .1 .0 .1 .0 .1) (g .1 .1 .0 .1 .0 .1) (s .pre) in rw (c .before .choices-from .ensures .0, c .before .choices-from .ensures .1, c .regions-before .ensures .0, share-end (s .args .plan .axes) (s .args .plan .axes) (mostOf (c .before .before .before .in-order .result) (c .before .before .exponents-along .result)) (le-refl _) (le-refl _)) (prices-same (s .args .plan) ok (c .before .before .before .in-order .result) (c .before .before .exponents-along .result) (table-slot (s .args .plan .axes) _ (c .before .before .before .in-order .result) (few-axes ok) (c .before .before .before .in-order .ensures)) (c .before .before .exponents-along .ensures))
+returns c = let s = c .before .before .before .before .before .before .before .before in let g = s .good .0 .1 .1 .1 .1 in let ok = passed-accepted (s .args .plan) (g .0 .1 .0 .1) (g .1 .0 .1 .0 .1) (g .1 .1 .0 .1 .0 .1) (s .pre) in rw (c .before .choices-from .ensures .0, c .before .choices-from .ensures .1, c .regions-to .ensures .1, share-end (s .args .plan .axes) (s .args .plan .axes) (mostOf (c .before .before .before .in-order .result) (c .before .before .exponents-along .result)) (le-refl _) (le-refl _)) (prices-same (s .args .plan) ok (c .before .before .before .in-order .result) (c .before .before .exponents-along .result) (table-slot (s .args .plan .axes) _ (c .before .before .before .in-order .result) (few-axes ok) (c .before .before .before .in-order .ensures)) (c .before .before .exponents-along .ensures))
 
 pub prices-spec : {M : Type 1} → statement M
 prices-spec =
@@ -32,5 +32,5 @@ prices-spec =
     in-order-requires
     exponents-along-requires
     choices-from-requires
-    regions-before-requires
+    regions-to-requires
     returns)
