@@ -117,9 +117,11 @@ fn sum_line(
     ensures { λ _. ⌜ now (work .exit) ≡ written (now (work .entry)) dst n (combs (now (array .entry)) at u e t) ⌝ }
 {
     if u == 1 {
-        if 96 < e {
-            sum_rows(work, array, at, n, t, e, dst);
-            return;
+        if 15 < e {
+            if 63 < n {
+                sum_rows(work, array, at, n, t, e, dst);
+                return;
+            }
         }
     }
     sum_combs(work, array, at, u, n, t, e, dst);

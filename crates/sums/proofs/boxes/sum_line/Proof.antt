@@ -8,7 +8,7 @@ use Rattle.sums.proofs.boxes.sum_rows.Reads as sum-rows-reads
 
 -- src/sums.rt:121:13
 sum-rows-requires : tie.Need-sum-rows-requires
-sum-rows-requires c κs = let s = c .before .before .before in rw (c .before .before .if1 .taken) at (s .pre)
+sum-rows-requires c κs = let s = c .before .before .before .before in rw (c .before .before .before .if1 .taken) at (s .pre)
 
 -- src/sums.rt:122:13
 same-length : tie.Need-same-length
@@ -16,7 +16,7 @@ same-length c = search needs
 
 -- src/sums.rt:122:13
 returns : tie.Need-returns
-returns c = rw (c .before .before .before .before .if1 .taken) (c .before .sum-rows .ensures)
+returns c = rw (c .before .before .before .before .before .if1 .taken) (c .before .sum-rows .ensures)
 
 -- src/sums.rt:125:5
 sum-combs-requires : tie.Need-sum-combs-requires
