@@ -118,10 +118,16 @@ fn sum_line(
 {
     if u == 1 {
         if 15 < e {
-            if 63 < n {
+            if 31 < n {
                 sum_rows(work, array, at, n, t, e, dst);
                 return;
             }
+        }
+    }
+    if t == 1 {
+        if 127 < e {
+            sum_each(work, array, at, u, n, t, e, dst);
+            return;
         }
     }
     sum_combs(work, array, at, u, n, t, e, dst);
