@@ -5,7 +5,7 @@ ghost use Prim.Native.Nat.{_<_};
 ghost use lib.ListN.{length};
 ghost use Rattle.planner.specs.Plans.{listsOf};
 ghost use Rattle.boards.specs.Grids.{boards, lead};
-ghost use Rattle.boards.specs.Finding.{planGrid, summedIn};
+ghost use Rattle.boards.specs.Finding.{planGrid, summedIn, leads, leadAt};
 ghost use Rattle.memory.specs.Memory.{read};
 ghost use Rattle.memory.specs.Gather.{gathered};
 ghost use Rattle.memory.specs.Entries.{gatherRefusal, gathering};
@@ -17,8 +17,10 @@ use checks::plan_refusal;
 use cube::types::Choice;
 use engine::refusals::area_of;
 use grid::counts::steps_of;
-use grid::places::is_lead;
+use grid::places::board_of;
 use grid::places::labels_of;
+use grid::places::lead_labels;
+use grid::places::leads_of;
 use grid::places::next_of;
 use grid::places::region_at;
 use planner::types::Plan;
@@ -53,26 +55,26 @@ pub fn copy_lead(plan: Plan, choice: Choice, board: u64, work: &[i64], result: &
     );
 }
 
-// A board's cells, if it has any.
-pub fn copy_board(plan: Plan, choice: Choice, board: u64, work: &[i64], result: &mut [i64])
-    requires { ⌜ (Copying plan (choice .mask) (length (now work)) (length (now result))) × (board < boards (planGrid plan)) ⌝ }
-    ensures { λ _. ⌜ now (result .exit) ≡ oneBoard (listsOf plan .lengths) (planGrid plan) (summedIn plan (choice .mask)) board (read (now (work .entry))) (now (result .entry)) ⌝ }
+// The cells of the lead of a rank.
+pub fn copy_rank(plan: Plan, choice: Choice, rank: u64, work: &[i64], result: &mut [i64])
+    requires { ⌜ (Copying plan (choice .mask) (length (now work)) (length (now result))) × (rank < leads (planGrid plan) (summedIn plan (choice .mask))) ⌝ }
+    ensures { λ _. ⌜ now (result .exit) ≡ oneBoard (listsOf plan .lengths) (planGrid plan) (summedIn plan (choice .mask)) (leadAt (planGrid plan) (summedIn plan (choice .mask)) rank) (read (now (work .entry))) (now (result .entry)) ⌝ }
 {
-    if is_lead(plan, choice, board) {
-        copy_lead(plan, choice, board, work, result);
-    }
+    let labels = lead_labels(plan, choice, rank);
+    let board = board_of(plan, labels);
+    copy_lead(plan, choice, board, work, result);
 }
 
-// The boards' cells, one board after another.
+// The leads' cells, one lead after another.
 pub fn copy_all(plan: Plan, choice: Choice, work: &[i64], result: &mut [i64])
     requires { ⌜ Copying plan (choice .mask) (length (now work)) (length (now result)) ⌝ }
     ensures { λ _. ⌜ now (result .exit) ≡ gathered (listsOf plan .lengths) (planGrid plan) (summedIn plan (choice .mask)) (read (now (work .entry))) ⌝ }
 {
-    let boards = 1u64 << plan.p;
-    let mut b: u64 = 0;
-    while b < boards {
-        copy_board(plan, choice, b, work, result);
-        b += 1;
+    let leads = leads_of(plan, choice);
+    let mut r: u64 = 0;
+    while r < leads {
+        copy_rank(plan, choice, r, work, result);
+        r += 1;
     }
 }
 

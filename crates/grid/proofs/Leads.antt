@@ -1,8 +1,8 @@
 -- A board's labels, read from its number from the last axis on.
-use Prim.Native.Nat.{ℕ, _+_, _-_, _/_, _%_, _≤_, _<_, min}
+use Prim.Native.Nat.{ℕ, _+_, _-_, _*_, _/_, _%_, _≤_, _<_, min}
 use mathlib.Core.Path.{_≡_, sym, _∙_, refl, ap}
 use mathlib.Core.Bool.{true, false, _||_, not}
-use native.Mathlib.Nat.{div-one, le-refl}
+use native.Mathlib.Nat.{div-one, le-refl, zero-add}
 use native.Mathlib.Omega.{arith}
 use borrow.Author.Tests.{eqb-true, eqb-false}
 use lib.Dec.{eqb}
@@ -11,14 +11,15 @@ use Rattle.cube.specs.Boxes.{product}
 use Rattle.cube.specs.Choices.{fullMask}
 use Rattle.cube.specs.Limits.{axisLimit}
 use Rattle.cube.specs.Tree.{has, kept}
-use Rattle.cube.proofs.Products.{product-none}
+use Rattle.cube.proofs.Products.{product-none, product-le, product-last}
+use Rattle.cube.proofs.Sets.{kept-has, kept-out}
 use Rattle.cube.proofs.Sums.{by}
 use Rattle.planner.specs.Accepted.{Accepted}
 use Rattle.planner.specs.declared.types.Plan.{Plan}
 use Rattle.boards.specs.Grids.{boards, label}
-use Rattle.boards.specs.Finding.{planGrid, summedIn}
-use Rattle.boards.proofs.Tallied.{axes-same}
-use Rattle.boards.proofs.Planned.{rank-kept, full-set, full-leads, full-label}
+use Rattle.boards.specs.Finding.{planGrid, summedIn, leads}
+use Rattle.boards.proofs.Tallied.{axes-same, lawful, boards-few}
+use Rattle.boards.proofs.Planned.{rank-kept, part-le, full-set, full-leads, full-label}
 
 -- the set of the choice that keeps every axis
 abbrev whole : Plan → List ℕ
@@ -70,3 +71,35 @@ module _ (q : Plan) (ok : Accepted q) (b : ℕ) (below : b < boards (planGrid q)
     left-turn =
         let a = axes-same q ok in
         ap (λ x. x / planGrid q .parts e) same ∙ told .1 ∙ ap (λ n. b / product (kept (whole q) (planGrid q .parts)) (n - e) e) a
+
+-- ---- how many leads a choice has, counted axis by axis
+
+module _ (q : Plan) (ok : Accepted q) (mask : ℕ) where
+  abbrev factor : ℕ → ℕ
+  factor = kept (summedIn q mask) (planGrid q .parts)
+
+  factor-fits : (d : ℕ) → d < planGrid q .axes → (0 < factor d) × (factor d ≤ planGrid q .parts d)
+  factor-fits d h =
+      let s = lawful q ok .some d h in
+      by (has (summedIn q mask) d)
+      (λ t. let e = kept-has (planGrid q .parts) (summedIn q mask) d t in (omega arith, omega arith))
+      (λ t. let e = kept-out (planGrid q .parts) (summedIn q mask) d t in (omega arith, omega arith))
+
+  pub count-small : (d : ℕ) → d ≤ q .axes → product factor d 0 ≤ 1024
+  count-small d h =
+      let a = axes-same q ok in
+      let x = part-le factor (planGrid q .axes) d 0 (λ i l. factor-fits i l .0) (omega arith) in
+      let y = product-le factor (planGrid q .parts) (planGrid q .axes) 0 (λ i l r. factor-fits i (omega arith) .1) in
+      let b : product (planGrid q .parts) (planGrid q .axes) 0 ≤ 1024 = (unfold boards in boards-few q ok) in
+      omega arith
+
+  pub count-none : 1 ≡ product factor 0 0
+  unfolding product
+  count-none = refl
+
+  pub count-turn : (d : ℕ) → product factor d 0 * factor d ≡ product factor (d + 1) 0
+  count-turn d = sym (product-last factor d 0 ∙ ap (λ x. product factor d 0 * factor x) (zero-add d))
+
+  pub count-end : product factor (q .axes) 0 ≡ leads (planGrid q) (summedIn q mask)
+  unfolding leads
+  count-end = ap (λ n. product factor n 0) (sym (axes-same q ok))

@@ -66,6 +66,32 @@ pub fn lead_labels(plan: Plan, choice: Choice, rank: u64) -> [u64; 8]
     labels
 }
 
+// Into how many portions the axis at place d is cut, and 1 where a choice sums it out.
+fn kept_parts(plan: Plan, choice: Choice, d: usize) -> u64
+    requires { ⌜ (planRefusal plan ≡ 0) × (d < plan .axes) ⌝ }
+    ensures { λ r. ⌜ (r ≡ kept (summedIn plan (choice .mask)) (planGrid plan .parts) d) × (r ≤ 1024) ⌝ }
+{
+    if choice.keeps(plan.order[d]) {
+        return parts_of(plan, d);
+    }
+    1
+}
+
+// How many leads a choice has.
+pub fn leads_of(plan: Plan, choice: Choice) -> u64
+    requires { ⌜ planRefusal plan ≡ 0 ⌝ }
+    ensures { λ r. ⌜ (r ≡ leads (planGrid plan) (summedIn plan (choice .mask))) × (r ≤ 1024) ⌝ }
+{
+    let mut count: u64 = 1;
+    let mut d: usize = 0;
+    while d < plan.axes as usize {
+        let parts = kept_parts(plan, choice, d);
+        count = count * parts;
+        d += 1;
+    }
+    count
+}
+
 // The labels of a board: it is a lead of the choice that keeps every axis, and its number is its rank.
 pub fn labels_of(plan: Plan, board: u64) -> [u64; 8]
     requires { ⌜ (planRefusal plan ≡ 0) × (board < boards (planGrid plan)) ⌝ }

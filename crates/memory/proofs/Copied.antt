@@ -21,6 +21,7 @@ use Rattle.cube.proofs.Sets.{Down, has-other, kept-has, kept-out}
 use Rattle.cube.proofs.Tables.{table-length, table-at, table-of}
 use Rattle.planner.specs.Plans.{PlanLists, Sound}
 use Rattle.boards.specs.Grids.{Grid, Lawful, gridOf, maskOf, boards, label, lead, extent, box, cells, global, index, cellAt}
+use Rattle.boards.specs.Finding.{leads, leadAt}
 use Rattle.boards.proofs.Lawful.{grid-lawful}
 use Rattle.boards.proofs.Boards.{label-lt}
 use Rattle.cells.specs.Strides.{boxSize, offset, boxPlace, InArray}
@@ -29,7 +30,8 @@ use Rattle.cells.proofs.Offsets.{offset-sum}
 use Rattle.cells.proofs.Putting.{Distinct, put-length, put-at, put-else}
 use Rattle.memory.specs.Memory.{read}
 use Rattle.memory.specs.Gather.{portionOf, owner, local, gatheredPosition, gathered}
-use Rattle.memory.specs.Copies.{keptAlong, cellStride, dueAt, ownerOf, oneBoard, boardsTo}
+use Rattle.memory.specs.Copies.{keptAlong, cellStride, dueAt, ownerOf, oneBoard, rankOf, leadsTo}
+use Rattle.memory.proofs.Ranked.{rank-at, at-rank, rank-lt}
 use Rattle.memory.proofs.Loops.{place-formula}
 use Rattle.memory.proofs.Rooted.{position-cong}
 use Rattle.memory.proofs.Gathering.{table-same, Holds, portion-holds, owner-lt, owner-label, owner-global, owner-leads, owner-within, kept-order, gathered-within, gathered-flat, gathered-lt}
@@ -264,19 +266,6 @@ module _ (a : PlanLists) (sound : Sound a) (Y : List ℕ) where
       (λ t. let l = ltb-true o b t in t ∙ sym (lt-ltb o (b + 1) (omega arith)))
       (λ t. let l = ltb-false o b t in t ∙ sym (le-ltb o (b + 1) (let n : b < o = by (ltb b o) (λ s. ltb-true b o s) (λ s. absurd (ne (let m = ltb-false b o s in omega arith))) in omega arith)))
 
-  -- a board that is no lead owns nothing
-  pub copy-other : Down Y (g .axes) → (b : ℕ) (now work : List ℤ) → length now ≡ Choices.cells (a .lengths) mask → lead g Y b ≡ false → now ≡ oneBoard (a .lengths) g Y b (read work) now
-  unfolding oneBoard ownerOf
-  copy-other d b now work n t =
-      table-of (length now) _ now (pos 0) refl (λ c h. sym (ap (λ t. pick t (due work c) (getD now c (pos 0))) (ne-eqb (owns c) b (none c (rw n at h)))))
-    where
-      none : (c : ℕ) → c < Choices.cells (a .lengths) mask → owner g (gatheredPosition (a .lengths) g mask c) ≡ b → ⊥
-      none c h e =
-          let l = owner-leads g ok (gatheredPosition (a .lengths) g mask c) (gathered-within a sound Y c h) Y (gathered-flat a sound Y c h) Y d (gathered-flat a sound Y c h) in
-          let z : _≡_ {A = Bool} true false = sym l ∙ ap (lead g Y) e ∙ t in
-          let y : _≡_ {A = ℕ} 0 1 = cc in
-          omega arith
-
   module _ (b : ℕ) (on : b < boards g) (t : lead g Y b ≡ true) {E T : List ℕ} {at : ℕ} (r : LeadBox b on t E T at) (src : ℕ) (es : src ≡ index g b (lastOf Y) 0) where
     -- a lead's cells are copied
     pub copy-lead : (now work : List ℤ) → length now ≡ Choices.cells (a .lengths) mask → g .axes ≤ length E → g .axes ≤ length T → placed now (boxSize E (g .axes) 0) (boxPlace E T (g .axes) 0 at) (from work src) ≡ oneBoard (a .lengths) g Y b (read work) now
@@ -298,35 +287,53 @@ module _ (a : PlanLists) (sound : Sound a) (Y : List ℕ) where
         there : (c : ℕ) → (owns c ≡ b → ⊥) → getD (placed now (boxSize E (g .axes) 0) (boxPlace E T (g .axes) 0 at) (from work src)) c (pos 0) ≡ getD now c (pos 0)
         there c ne = put-else E T (g .axes) 0 at now work src c (λ q u e. ne (ap owns e ∙ spot-owner b on t r q (rw (box-size b on t r) at u)))
 
-  -- ---- all boards
+  -- ---- all leads, by their ranks
 
-  module _ (old work : List ℤ) where
+  module _ (down : Down Y (g .axes)) (old work : List ℤ) (n : length old ≡ Choices.cells (a .lengths) mask) where
+    -- the rank of the board that has cell c
+    abbrev ranked : ℕ → ℕ
+    ranked c = rankOf g Y (owns c)
+
     abbrev cellTo : ℕ → ℕ → ℤ
-    cellTo b c = pick (ltb (owns c) b) (due work c) (getD old c (pos 0))
+    cellTo r c = pick (ltb (ranked c) r) (due work c) (getD old c (pos 0))
 
-    pub copy-begin : old ≡ boardsTo (a .lengths) g Y 0 (read work) old
-    unfolding boardsTo
-    copy-begin = table-of (length old) _ old (pos 0) refl (λ c h. sym (ap (λ t. pick t (due work c) (getD old c (pos 0))) (le-ltb (owns c) 0 (omega arith))))
+    owns-lead : (c : ℕ) → c < length old → lead g Y (owns c) ≡ true
+    unfolding ownerOf
+    owns-lead c u = let h : c < Choices.cells (a .lengths) mask = (rw n at u) in owner-leads g ok (gatheredPosition (a .lengths) g mask c) (gathered-within a sound Y c h) Y (gathered-flat a sound Y c h) Y down (gathered-flat a sound Y c h)
 
-    pub copy-length : (b : ℕ) → length (boardsTo (a .lengths) g Y b (read work) old) ≡ length old
-    unfolding boardsTo
-    copy-length b = table-length (length old) 0 _
+    owns-lt : (c : ℕ) → c < length old → owns c < boards g
+    unfolding ownerOf
+    owns-lt c u = let h : c < Choices.cells (a .lengths) mask = (rw n at u) in owner-lt g ok (gatheredPosition (a .lengths) g mask c) (gathered-within a sound Y c h)
 
-    pub copy-turn : (b : ℕ) → oneBoard (a .lengths) g Y b (read work) (boardsTo (a .lengths) g Y b (read work) old) ≡ boardsTo (a .lengths) g Y (b + 1) (read work) old
-    unfolding oneBoard boardsTo
-    copy-turn b =
-        ap (λ n. table n (λ c. pick (eqb (owns c) b) (due work c) (getD (table (length old) (cellTo b)) c (pos 0)))) (table-length (length old) 0 (cellTo b))
-        ∙ table-same (length old) (λ c. pick (eqb (owns c) b) (due work c) (getD (table (length old) (cellTo b)) c (pos 0))) (cellTo (b + 1)) each
+    pub copy-begin : old ≡ leadsTo (a .lengths) g Y 0 (read work) old
+    unfolding leadsTo
+    copy-begin = table-of (length old) _ old (pos 0) refl (λ c h. sym (ap (λ t. pick t (due work c) (getD old c (pos 0))) (le-ltb (ranked c) 0 (omega arith))))
+
+    pub copy-length : (r : ℕ) → length (leadsTo (a .lengths) g Y r (read work) old) ≡ length old
+    unfolding leadsTo
+    copy-length r = table-length (length old) 0 _
+
+    pub copy-turn : (r : ℕ) → r < leads g Y → oneBoard (a .lengths) g Y (leadAt g Y r) (read work) (leadsTo (a .lengths) g Y r (read work) old) ≡ leadsTo (a .lengths) g Y (r + 1) (read work) old
+    unfolding oneBoard leadsTo
+    copy-turn r below =
+        ap (λ n. table n (λ c. pick (eqb (owns c) (leadAt g Y r)) (due work c) (getD (table (length old) (cellTo r)) c (pos 0)))) (table-length (length old) 0 (cellTo r))
+        ∙ table-same (length old) (λ c. pick (eqb (owns c) (leadAt g Y r)) (due work c) (getD (table (length old) (cellTo r)) c (pos 0))) (cellTo (r + 1)) each
       where
-        each : (c : ℕ) → c < length old → pick (eqb (owns c) b) (due work c) (getD (table (length old) (cellTo b)) c (pos 0)) ≡ cellTo (b + 1) c
-        each c h =
-            by (eqb (owns c) b)
-            (λ s. ap (λ t. pick t (due work c) (getD (table (length old) (cellTo b)) c (pos 0))) s ∙ ap (λ t. pick t (due work c) (getD old c (pos 0))) (sym (lt-ltb (owns c) (b + 1) (let e = eqb-true (owns c) b s in omega arith))))
-            (λ s. ap (λ t. pick t (due work c) (getD (table (length old) (cellTo b)) c (pos 0))) s ∙ table-at (length old) 0 (cellTo b) c (pos 0) h ∙ ap (cellTo b) (zero-add c) ∙ ap (λ t. pick t (due work c) (getD old c (pos 0))) (further (owns c) b (eqb-false (owns c) b s)))
+        same : (c : ℕ) → owns c ≡ leadAt g Y r → ranked c ≡ r
+        same c e = ap (rankOf g Y) e ∙ rank-at g ok Y down r below
 
-    -- all boards copied: the gathered choice
-    pub copy-end : (b : ℕ) → boards g ≤ b → length old ≡ Choices.cells (a .lengths) mask → boardsTo (a .lengths) g Y b (read work) old ≡ gathered (a .lengths) g Y (read work)
-    unfolding boardsTo gathered dueAt ownerOf
-    copy-end b h n =
-        ap (λ n. table n (cellTo b)) n
-        ∙ table-same (Choices.cells (a .lengths) mask) (cellTo b) _ (λ c u. ap (λ t. pick t (due work c) (getD old c (pos 0))) (lt-ltb (owner g (gatheredPosition (a .lengths) g mask c)) b (let o = owner-lt g ok (gatheredPosition (a .lengths) g mask c) (gathered-within a sound Y c u) in omega arith)))
+        other : (c : ℕ) → c < length old → (owns c ≡ leadAt g Y r → ⊥) → ranked c ≡ r → ⊥
+        other c h ne e = ne (sym (at-rank g ok Y down (owns c) (owns-lt c h) (owns-lead c h)) ∙ ap (leadAt g Y) e)
+
+        each : (c : ℕ) → c < length old → pick (eqb (owns c) (leadAt g Y r)) (due work c) (getD (table (length old) (cellTo r)) c (pos 0)) ≡ cellTo (r + 1) c
+        each c h =
+            by (eqb (owns c) (leadAt g Y r))
+            (λ s. ap (λ t. pick t (due work c) (getD (table (length old) (cellTo r)) c (pos 0))) s ∙ ap (λ t. pick t (due work c) (getD old c (pos 0))) (sym (lt-ltb (ranked c) (r + 1) (let e = same c (eqb-true (owns c) (leadAt g Y r) s) in omega arith))))
+            (λ s. ap (λ t. pick t (due work c) (getD (table (length old) (cellTo r)) c (pos 0))) s ∙ table-at (length old) 0 (cellTo r) c (pos 0) h ∙ ap (cellTo r) (zero-add c) ∙ ap (λ t. pick t (due work c) (getD old c (pos 0))) (further (ranked c) r (other c h (eqb-false (owns c) (leadAt g Y r) s))))
+
+    -- all leads copied: the gathered choice
+    pub copy-end : (r : ℕ) → leads g Y ≤ r → leadsTo (a .lengths) g Y r (read work) old ≡ gathered (a .lengths) g Y (read work)
+    unfolding leadsTo gathered dueAt ownerOf
+    copy-end r h =
+        ap (λ n. table n (cellTo r)) n
+        ∙ table-same (Choices.cells (a .lengths) mask) (cellTo r) _ (λ c u. ap (λ t. pick t (due work c) (getD old c (pos 0))) (lt-ltb (ranked c) r (let v : c < length old = (rw (sym n) at u) in let o = rank-lt g ok Y down (owns c) (owns-lt c v) (owns-lead c v) in omega arith)))

@@ -35,7 +35,7 @@ use Rattle.cells.specs.Strides.{boxSize, boxPlace, Boxed, Mergeable}
 use Rattle.memory.specs.Memory.{read}
 use Rattle.memory.specs.Gather.{gathered}
 use Rattle.memory.specs.Entries.{workCells, smallArea, noFinish, wrongResult, gatherChecks, gatherRefusal, gatherOf, gatherOr, gathering}
-use Rattle.memory.specs.Copies.{cellStride, oneBoard, boardsTo, Copying}
+use Rattle.memory.specs.Copies.{cellStride, oneBoard, leadsTo, Copying}
 use Rattle.memory.proofs.Refusing.{area-boards}
 use Rattle.memory.proofs.Totals.{keeps-order}
 use Rattle.memory.proofs.Shown.{cells-room}
@@ -126,8 +126,9 @@ cells-same q ok mask =
         ap (keeps mask) (sym o) ∙ sym (not-not (keeps mask (planGrid q .order (planGrid q .rank a)))) ∙ ap not (sym s) ∙ sym k ∙ ap (keeps (maskOf (planGrid q) (summedIn q mask))) o
 
 -- a result on the way has the length that it had
-pub copying-on : (q : Plan) → Accepted q → (mask : ℕ) (work old now : List ℤ) (b : ℕ) → now ≡ boardsTo (listsOf q .lengths) (planGrid q) (summedIn q mask) b (read work) old → Copying q mask (length work) (length old) → Copying q mask (length work) (length now)
-copying-on q ok mask work old now b e c = record { passed = c .passed; some = c .some; room = c .room; cells = ap length e ∙ Copied.copy-length (listsOf q) (ok .sound) (summedIn q mask) old work b ∙ c .cells }
+pub copying-on : (q : Plan) → Accepted q → (mask : ℕ) (work old now : List ℤ) (r : ℕ) → now ≡ leadsTo (listsOf q .lengths) (planGrid q) (summedIn q mask) r (read work) old → Copying q mask (length work) (length old) → Copying q mask (length work) (length now)
+copying-on q ok mask work old now r e c =
+    record { passed = c .passed; some = c .some; room = c .room; cells = ap length e ∙ Copied.copy-length (listsOf q) (ok .sound) (summedIn q mask) (down q ok mask) old work (c .cells) r ∙ c .cells }
 
 module _ (q : Plan) (work at result : ℕ) where
   pub gather-due : (planRefusal q ≡ 0 → ⊥) → planRefusal q ≡ gatherRefusal q work at result

@@ -21,5 +21,6 @@ pub mod Strided
 pub mod Expanded
 pub mod Stepped
 pub mod Shown
+pub mod Ranked
 pub mod Copied
 pub mod Gathers

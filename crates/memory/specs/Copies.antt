@@ -1,17 +1,17 @@
--- A gathered choice by strides, and gathering board by board, as code does it: the result on the way.
+-- A gathered choice by strides, and gathering lead by lead, as code does it: the result on the way.
 use Prim.Native.Nat.{ℕ, _+_, _-_, _≤_, _<_}
 use mathlib.Core.Path.{_≡_}
 use mathlib.Core.List.{List}
 use lib.Dec.{eqb, ltb}
 use lib.ListN.{length, getD}
 use lib.IntN.{ℤ, pos}
-use Rattle.cube.specs.Boxes.{pick, table, product}
+use Rattle.cube.specs.Boxes.{pick, table, product, place}
 use Rattle.cube.specs.Choices as Choices
 use Rattle.cube.specs.Tree.{next, kept}
 use Rattle.planner.specs.Plans.{listsOf}
 use Rattle.planner.specs.Refusals.{planRefusal}
 use Rattle.planner.specs.declared.types.Plan.{Plan}
-use Rattle.boards.specs.Grids.{Grid, maskOf, boards, cellAt}
+use Rattle.boards.specs.Grids.{Grid, maskOf, label, cellAt}
 use Rattle.boards.specs.Finding.{planGrid, summedIn}
 use Rattle.memory.specs.Gather.{owner, local, gatheredPosition}
 use Rattle.memory.specs.Entries.{workCells}
@@ -35,9 +35,13 @@ ownerOf ds g Y c = owner g (gatheredPosition ds g (maskOf g Y) c)
 unfoldable pub oneBoard : List ℕ → Grid → List ℕ → ℕ → (ℕ → ℤ) → List ℤ → List ℤ
 oneBoard ds g Y b work result = table (length result) (λ c. pick (eqb (ownerOf ds g Y c) b) (dueAt ds g Y work c) (getD result c (pos 0)))
 
--- the boards before b copied, all else kept
-unfoldable pub boardsTo : List ℕ → Grid → List ℕ → ℕ → (ℕ → ℤ) → List ℤ → List ℤ
-boardsTo ds g Y b work result = table (length result) (λ c. pick (ltb (ownerOf ds g Y c) b) (dueAt ds g Y work c) (getD result c (pos 0)))
+-- the rank of a lead among the leads of a choice: what its labels on the kept axes spell
+unfoldable pub rankOf : Grid → List ℕ → ℕ → ℕ
+rankOf g Y b = place (kept Y (g .parts)) (label g b) (g .axes) 0
+
+-- the leads of a rank below r copied, all else kept
+unfoldable pub leadsTo : List ℕ → Grid → List ℕ → ℕ → (ℕ → ℤ) → List ℤ → List ℤ
+leadsTo ds g Y r work result = table (length result) (λ c. pick (ltb (rankOf g Y (ownerOf ds g Y c)) r) (dueAt ds g Y work c) (getD result c (pos 0)))
 
 -- what copying asks: a choice that is not the root, a work area that is large enough, and a result of the choice's cells
 pub record Copying (q : Plan) (mask work result : ℕ) : Type 0 where

@@ -89,11 +89,12 @@ loop-again c =
     let i = z .loop .inv in
     let h = k .before .loop-test .taken in
     let q = s .args .plan in
-    let l = ap (λ x. z .loop .rest % x) (k .parts-of .ensures .0) ∙ label-here q (i .0) (s .args .board) (s .pre .1) (z .loop .rest) (z .loop .d) h (i .1) (i .2) in
-    (i .0,
-     omega (arith, i .1),
-     rw (k .parts-of .ensures .0) (left-turn q (i .0) (s .args .board) (s .pre .1) (z .loop .rest) (z .loop .d) h (i .1) (i .2)),
-     lead-back q (s .args .choice .mask) (s .args .board) (z .loop .d) h (i .3) (rw (← l) (sym (c .before .lead-may .ensures) ∙ not-false (c .before .lead-may .result) (c .if1 .left))))
+    let l = ap (λ x. z .loop .rest % x) (k .parts-of .ensures .0) ∙ label-here q (i .0) (s .args .board) (s .pre .1) (z .loop .rest) (z .loop .d) h (i .1) (i .2) in (
+      i .0,
+      omega (arith, i .1),
+      rw (k .parts-of .ensures .0) (left-turn q (i .0) (s .args .board) (s .pre .1) (z .loop .rest) (z .loop .d) h (i .1) (i .2)),
+      lead-back q (s .args .choice .mask) (s .args .board) (z .loop .d) h (i .3) (rw (← l) (sym (c .before .lead-may .ensures) ∙ not-false (c .before .lead-may .result) (c .if1 .left))),
+    )
 
 -- src/places.rt:105:1
 returns-2 : tie.Need-returns-2 Inv-loop μ-loop

@@ -101,12 +101,13 @@ loop-again c =
     let v = lp .loop .inv in
     let m = mostOf (s .args .t1) (s .args .t2) in
     let e : k .most-of .result ≡ m (lp .loop .d) = most-same (s .args .t1) (s .args .t2) (lp .loop .d) (k .most-of .result) (k .most-of .ensures .0) in
-    let h = k .before .loop-test .taken in
-    (omega arith,
-     v .1,
-     ap₂ _*_ (v .2) e ∙ all-turn m (lp .loop .d),
-     c .with-axis2 .ensures ∙ ap₂ _+_ (ap₂ _*_ (v .3) e) (v .2) ∙ sym (start-last m (lp .loop .d)),
-     rw (c .before .with-axis .ensures, e, v .2) (start-next (s .args .t1) (s .args .t2) (s .args .n) (s .pre .0) (s .args .i) (lp .loop .d) (lp .loop .start) (v .4)))
+    let h = k .before .loop-test .taken in (
+      omega arith,
+      v .1,
+      ap₂ _*_ (v .2) e ∙ all-turn m (lp .loop .d),
+      c .with-axis2 .ensures ∙ ap₂ _+_ (ap₂ _*_ (v .3) e) (v .2) ∙ sym (start-last m (lp .loop .d)),
+      rw (c .before .with-axis .ensures, e, v .2) (start-next (s .args .t1) (s .args .t2) (s .args .n) (s .pre .0) (s .args .i) (lp .loop .d) (lp .loop .start) (v .4)),
+    )
 
 -- src/pricing.rt:91:1
 returns : tie.Need-returns Inv-loop μ-loop

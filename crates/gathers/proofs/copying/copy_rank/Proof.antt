@@ -1,0 +1,65 @@
+-- `gathers::copying::copy_rank` meets its contract: labels that spell the rank give the lead.
+use Prim.Native.Nat.{ℕ, _<_}
+use mathlib.Core.Path.{_≡_, sym, _∙_, ap}
+use native.Mathlib.Omega.{arith}
+use lib.ListN.{getD}
+use Rattle.planner.specs.Plans.{listsOf}
+use Rattle.planner.proofs.Accepting.{passed-accepted}
+use Rattle.boards.specs.Finding.{planGrid, summedIn, leadAt, Labels}
+use Rattle.boards.proofs.Tallied.{lawful, axes-same}
+use Rattle.memory.specs.Copies.{oneBoard}
+use Rattle.memory.specs.Memory.{read}
+use Rattle.memory.proofs.Ranked.{in-parts, lead-of-labels, lead-inside, lead-true}
+use Rattle.memory.proofs.Gathers.{down}
+use borrow.Author.Needs.{needs}
+use Rattle.gathers.proofs.copying.copy_rank.Statement.{statement}
+use Rattle.gathers.proofs.copying.copy_rank.Tie as tie
+use Rattle.gathers.proofs.copying.copy_rank.Reads as reads
+use Rattle.gathers.proofs.copying.copy_rank.Lts as lts
+use Rattle.gathers.proofs.copying.copy_lead.Reads as copy-lead-reads
+use Rattle.grid.proofs.places.board_of.Reads as board-of-reads
+use Rattle.grid.proofs.places.lead_labels.Reads as lead-labels-reads
+
+-- src/copying.rt:63:9
+lead-labels-requires : tie.Need-lead-labels-requires
+lead-labels-requires c κs = search needs
+
+-- src/copying.rt:64:9
+board-of-requires : tie.Need-board-of-requires
+board-of-requires c κs =
+    let s = c .before in
+    let gd = s .good .0 .1 .1 .1 .1 in
+    let ok = passed-accepted (s .args .plan) (gd .0 .1 .0 .1) (gd .1 .0 .1 .0 .1) (gd .1 .1 .0 .1 .0 .1) (s .pre .0 .passed) in
+    let a = axes-same (s .args .plan) ok in
+    (s .pre .0 .passed, λ d h. (let k = in-parts (planGrid (s .args .plan)) (lawful (s .args .plan) ok) (summedIn (s .args .plan) (s .args .choice .mask)) (down (s .args .plan) ok (s .args .choice .mask)) (s .args .rank) (s .pre .1) d (omega arith) in rw (c .lead-labels .ensures .1 d h) k))
+
+-- src/copying.rt:65:5
+copy-lead-requires : tie.Need-copy-lead-requires
+copy-lead-requires c κs =
+    let l = c .before in
+    let s = l .before .before in
+    let gd = s .good .0 .1 .1 .1 .1 in
+    let ok = passed-accepted (s .args .plan) (gd .0 .1 .0 .1) (gd .1 .0 .1 .0 .1) (gd .1 .1 .0 .1 .0 .1) (s .pre .0 .passed) in
+    let a = axes-same (s .args .plan) ok in
+    let e = l .board-of .ensures .0 ∙ lead-of-labels (planGrid (s .args .plan)) (lawful (s .args .plan) ok) (summedIn (s .args .plan) (s .args .choice .mask)) (down (s .args .plan) ok (s .args .choice .mask)) (s .args .rank) (s .pre .1) (λ d. getD (l .before .lead-labels .result) d 0) (λ d h. l .before .lead-labels .ensures .1 d (omega arith)) in
+    (s .pre .0, rw e (lead-inside (planGrid (s .args .plan)) (lawful (s .args .plan) ok) (summedIn (s .args .plan) (s .args .choice .mask)) (down (s .args .plan) ok (s .args .choice .mask)) (s .args .rank) (s .pre .1)), rw e (lead-true (planGrid (s .args .plan)) (lawful (s .args .plan) ok) (summedIn (s .args .plan) (s .args .choice .mask)) (down (s .args .plan) ok (s .args .choice .mask)) (s .args .rank) (s .pre .1)))
+
+-- src/copying.rt:59:1
+same-length : tie.Need-same-length
+same-length c = search needs
+
+-- src/copying.rt:59:1
+returns : tie.Need-returns
+returns c =
+    let l = c .before .before .before in
+    let s = l .before .before in
+    let gd = s .good .0 .1 .1 .1 .1 in
+    let ok = passed-accepted (s .args .plan) (gd .0 .1 .0 .1) (gd .1 .0 .1 .0 .1) (gd .1 .1 .0 .1 .0 .1) (s .pre .0 .passed) in
+    let a = axes-same (s .args .plan) ok in
+    let e = l .board-of .ensures .0 ∙ lead-of-labels (planGrid (s .args .plan)) (lawful (s .args .plan) ok) (summedIn (s .args .plan) (s .args .choice .mask)) (down (s .args .plan) ok (s .args .choice .mask)) (s .args .rank) (s .pre .1) (λ d. getD (l .before .lead-labels .result) d 0) (λ d h. l .before .lead-labels .ensures .1 d (omega arith)) in
+    c .before .copy-lead .ensures ∙ ap (λ b. oneBoard (listsOf (s .args .plan) .lengths) (planGrid (s .args .plan)) (summedIn (s .args .plan) (s .args .choice .mask)) b (read (s .args .work .now)) (s .args .result .now)) e
+
+pub copy-rank-spec : {M : Type 1} → statement M
+copy-rank-spec =
+    tie.close
+    (tie.spec lead-labels-requires board-of-requires copy-lead-requires same-length returns)
