@@ -144,9 +144,9 @@ pub record Begins (tape : List ℕ) (judged : Planned) (points work₀ : List �
   pub small : Small points
   pub room : length work₀ ≡ 8192
 
--- Calls of next_line on one tape, each of which ensures its promise where what it asks is met. A call's `handed` is the number of calls before it, and it gets the work area and
--- the position as the call before left them; the cells and the buffer that it is lent hold anything.
--- The work area, the position, the answers, the newest first, and the bytes handed out: after an answer r the first r bytes of the buffer.
+-- Calls of next_line on one tape, one after the other. Of each call a is its arguments (tape, judged, handed, points, work, position, cells, out), r its answer and s the arguments at
+-- exit; where what it asks is met, its callers learn what it ensures. `handed` is the number of calls before, and the work area and the position are as the call before left them; the
+-- cells and the buffer that it is lent hold anything. The run's indices: work area, position, the answers, the newest first, and the bytes handed out, after an answer r the first r of the buffer.
 pub data Run (tape : List ℕ) (judged : Planned) (points work₀ : List ℤ) : List ℤ → ℕ → List ℕ → List ℕ → Type 0 where
   start : Run tape judged points work₀ work₀ 0 [] []
   one-more : {work : List ℤ} {at : ℕ} {answers bytes : List ℕ} → Run tape judged points work₀ work at answers bytes
@@ -155,6 +155,7 @@ pub data Run (tape : List ℕ) (judged : Planned) (points work₀ : List ℤ) : 
       → length (now (a .1 .1 .1 .1 .1 .1 .0)) ≡ 8192 → length (now (a .1 .1 .1 .1 .1 .1 .1 .0)) ≡ 172064
       → Run tape judged points work₀ (now (s .1 .1 .1 .1 .0)) (now (s .1 .1 .1 .1 .1 .0)) (r ∷ answers) (bytes ++ take r (now (s .1 .1 .1 .1 .1 .1 .1 .0)))
 
+-- FOR EVERY TAPE, one that is refused included:
 module _ (tape : List ℕ) (judged : Planned) (points work₀ : List ℤ) (from : Begins tape judged points work₀) where
   -- each answer is the length of its line
   abbrev Lengths : List ℕ → Type 0
@@ -217,7 +218,7 @@ module _ (tape : List ℕ) (judged : Planned) (points work₀ : List ℤ) (from 
           (λ t. ltb-true (length l) (length (printedLines tape)) t)
           (λ t. absurd (let n = line-none tape (length l) (ltb-false _ _ t) in let m = h 0 (omega arith) in let x = e .0 in omega arith))
 
-  -- It comes to that end: after 300 calls the answer is 0.
+  -- It comes to that end: no report has more than 300 lines.
   pub soon-zero : {work : List ℤ} {at r : ℕ} {answers bytes : List ℕ} → Run tape judged points work₀ work at (r ∷ answers) bytes → 300 ≤ length answers → r ≡ 0
   soon-zero run h = after-all-zero run (let f = lines-few tape judged (from .judgement) in omega arith)
 
