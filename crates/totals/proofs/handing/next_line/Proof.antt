@@ -177,9 +177,9 @@ returns-6 c =
     let m = c .before .before .before .before .if6 .taken in
     let n : a .handed ≡ a .judged .plan .axes + 2 ^ a .judged .plan .axes = omega arith in
     let v = power-few (a .tape .now) (a .judged) (a .handed) (a .points .now) (a .work .now) (a .position .now) d z in
-    let e = end-line-there (a .tape .now) (a .judged) (a .handed) (a .points .now) (a .work .now) (a .position .now) d z w n (a .judged .plan .axes + (1 * 2 ^ a .judged .plan .axes) % 18446744073709551616 - a .judged .plan .axes - 1) (omega arith) in
     let p = c .before .before .end-line in
-    (p .ensures .0 ∙ ap length e, p .ensures .1, p .ensures .2 ∙ ap (λ l. sets (a .out .now) 0 l) e, kept-stands (a .tape .now) (a .judged) (a .handed) (a .points .now) (a .work .now) (a .position .now) d z (λ l. omega arith) (omega arith))
+    let e = end-line-there (a .tape .now) (a .judged) (a .handed) (a .points .now) (a .work .now) (a .position .now) d z w n in
+    (p .ensures .0 ∙ ap length (e _ (omega arith)), p .ensures .1, p .ensures .2 ∙ ap (λ l. sets (a .out .now) 0 l) (e _ (omega arith)), kept-stands (a .tape .now) (a .judged) (a .handed) (a .points .now) (a .work .now) (a .position .now) d z (λ l. omega arith) (omega arith))
 
 -- src/handing.rt:20:1
 returns-7 : tie.Need-returns-7

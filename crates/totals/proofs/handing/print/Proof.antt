@@ -1,5 +1,7 @@
 -- `totals::handing::print` hands the points on to the lines.
+use mathlib.Core.Path.{_∙_, ap}
 use native.Mathlib.Nat.{sub-zero}
+use lib.ListN.{take}
 use borrow.Author.Needs.{needs}
 use Rattle.totals.proofs.handing.print.Statement.{statement}
 use Rattle.totals.proofs.handing.print.Tie as tie
@@ -34,7 +36,7 @@ print-loaded-requires : tie.Need-print-loaded-requires
 print-loaded-requires c κs =
     let s = c .before .before .before .before .before .before .before .before .before .before .before in
     let l = c .before .before .before .before .before .before .load in
-    (c .before .before .before .before .before .before .before .before .judge .ensures, λ z. rw sub-zero (l .ensures .1 z), s .pre .1, s .pre .2, s .pre .3)
+    (c .before .before .before .before .before .before .before .before .judge .ensures, λ z. ap (λ k. take k (l .last .1 .1 .0)) (sub-zero (l .result)) ∙ l .ensures .1 z, s .pre .1, s .pre .2, s .pre .3)
 
 -- src/handing.rt:102:1
 same-length : tie.Need-same-length
