@@ -6,14 +6,15 @@ ghost use Rattle.planner.specs.Refusals.{planRefusal};
 ghost use Rattle.boards.specs.Counts.{span, sendings, marks, walkCount};
 ghost use Rattle.boards.specs.Finding.{planGrid};
 ghost use Rattle.boards.specs.Answers.{countedReply, counting};
+ghost use Rattle.grid.specs.Tallied.{Tallied};
 use boards::types::Counted;
 use checks::plan_refusal;
 use planner::types::Plan;
 
-// The ways to label some axes, and the transfers of a walk over them.
-pub struct Tally {
-    pub span: u64,
-    pub sent: u64,
+// At each place up to the number of axes: the ways to label the axes from there on, and the transfers of a walk over them.
+pub struct Tallies {
+    pub span: [u64; 9],
+    pub sent: [u64; 9],
 }
 
 // Into how many portions the axis at place d is cut.
@@ -25,20 +26,23 @@ pub fn parts_of(plan: Plan, d: usize) -> u64
     1u64 << plan.exponents[axis]
 }
 
-// Over the axes from place d on.
-fn tally_from(plan: Plan, d: usize) -> Tally
-    requires { ⌜ (planRefusal plan ≡ 0) × (d ≤ plan .axes) ⌝ }
-    ensures { λ r. ⌜ (r .span ≡ span (planGrid plan) (plan .axes - d) d) × (r .sent ≡ sendings (planGrid plan) (plan .axes - d) d) × (r .span ≤ 1024) × (r .sent ≤ 262144) ⌝ }
+// From the last axis to the first.
+pub fn tallies_of(plan: Plan) -> Tallies
+    requires { ⌜ planRefusal plan ≡ 0 ⌝ }
+    ensures { λ r. ⌜ Tallied plan r ⌝ }
 {
-    if d == plan.axes as usize {
-        return Tally { span: 1, sent: 0 };
+    let mut span = [1u64; 9];
+    let mut sent = [0u64; 9];
+    let mut d = plan.axes as usize;
+    while 0 < d {
+        let ways = span[d];
+        let below = sent[d];
+        d -= 1;
+        let parts = parts_of(plan, d);
+        span[d] = parts * ways;
+        sent[d] = below * (parts + 1) + ways * (parts - 1);
     }
-    let parts = parts_of(plan, d);
-    let rest = tally_from(plan, d + 1);
-    Tally {
-        span: parts * rest.span,
-        sent: rest.sent * (parts + 1) + rest.span * (parts - 1),
-    }
+    Tallies { span, sent }
 }
 
 // The finishes and the expansions of a walk over m axes.
@@ -53,23 +57,21 @@ pub fn marks_of(m: usize) -> u64
 }
 
 // The steps of the walk over the axes from place d on, of a choice whose kept axes before d have n labellings.
-pub fn walk_count(plan: Plan, d: usize, n: u64) -> u64
-    requires { ⌜ (planRefusal plan ≡ 0) × (d ≤ plan .axes) × (n ≤ 1024) ⌝ }
+pub fn walk_count(plan: Plan, d: usize, n: u64, tallies: Tallies) -> u64
+    requires { ⌜ (planRefusal plan ≡ 0) × (d ≤ plan .axes) × (n ≤ 1024) × (Tallied plan tallies) ⌝ }
     ensures { λ r. ⌜ (r ≡ walkCount (planGrid plan) (plan .axes - d) d n) × (r < 2 ^ 32) ⌝ }
 {
-    let all = tally_from(plan, d);
     let others = marks_of(plan.axes as usize - d);
-    all.sent * n + others
+    tallies.sent[d] * n + others
 }
 
 // The transfers of the child that sums out the axis at place d.
-pub fn transfer_count(plan: Plan, d: usize, n: u64) -> u64
-    requires { ⌜ (planRefusal plan ≡ 0) × (d < plan .axes) × (n ≤ 1024) ⌝ }
+pub fn transfer_count(plan: Plan, d: usize, n: u64, tallies: Tallies) -> u64
+    requires { ⌜ (planRefusal plan ≡ 0) × (d < plan .axes) × (n ≤ 1024) × (Tallied plan tallies) ⌝ }
     ensures { λ r. ⌜ (r ≡ n * span (planGrid plan) (plan .axes - (d + 1)) (d + 1) * (planGrid plan .parts d - 1)) × (r < 2 ^ 32) ⌝ }
 {
     let parts = parts_of(plan, d);
-    let after = tally_from(plan, d + 1);
-    n * after.span * (parts - 1)
+    n * tallies.span[d + 1] * (parts - 1)
 }
 
 // T, of a plan that no check refuses.
@@ -77,7 +79,8 @@ pub fn steps_of(plan: Plan) -> u64
     requires { ⌜ planRefusal plan ≡ 0 ⌝ }
     ensures { λ r. ⌜ r ≡ stepCount (listsOf plan) ⌝ }
 {
-    let others = walk_count(plan, 0, 1);
+    let tallies = tallies_of(plan);
+    let others = walk_count(plan, 0, 1, tallies);
     others + 1
 }
 

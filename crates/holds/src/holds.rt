@@ -7,11 +7,14 @@ ghost use Rattle.boards.specs.Grids.{boards};
 ghost use Rattle.boards.specs.Held as Holding;
 ghost use Rattle.boards.specs.Finding.{planGrid, summedIn, heldWalk, Walking, Forming};
 ghost use Rattle.boards.specs.Answers.{heldReply, holding};
+ghost use Rattle.grid.specs.Tallied.{Tallied};
 use boards::types::Held;
 use checks::plan_refusal;
 use cube::types::Choice;
+use grid::counts::Tallies;
 use grid::counts::parts_of;
 use grid::counts::steps_of;
+use grid::counts::tallies_of;
 use grid::counts::transfer_count;
 use grid::counts::walk_count;
 use grid::places::cells_of;
@@ -30,8 +33,16 @@ pub fn own_of(plan: Plan, parent: Choice, child: Choice, board: u64) -> u64
 }
 
 // What a board holds of the choices in the walk over the children of a choice from place d on, when `at` of its steps are taken.
-pub fn held_walk(plan: Plan, choice: Choice, d: usize, n: u64, at: u64, board: u64) -> u64
-    requires { ⌜ (Walking plan (choice .mask) d n) × (board < boards (planGrid plan)) ⌝ }
+pub fn held_walk(
+    plan: Plan,
+    choice: Choice,
+    d: usize,
+    n: u64,
+    at: u64,
+    board: u64,
+    tallies: Tallies,
+) -> u64
+    requires { ⌜ (Walking plan (choice .mask) d n) × (board < boards (planGrid plan)) × (Tallied plan tallies) ⌝ }
     ensures { λ r. ⌜ (r ≡ heldWalk (planGrid plan) board (plan .axes - d) d (summedIn plan (choice .mask)) at) × (r ≤ pointLimit * (plan .axes - d)) ⌝ }
 {
     if d == plan.axes as usize {
@@ -40,22 +51,22 @@ pub fn held_walk(plan: Plan, choice: Choice, d: usize, n: u64, at: u64, board: u
     let child = choice.without(plan.order[d]);
     let own = own_of(plan, choice, child, board);
     let more = n * parts_of(plan, d);
-    let later = walk_count(plan, d + 1, more);
+    let later = walk_count(plan, d + 1, more, tallies);
     if at < later {
-        return held_walk(plan, choice, d + 1, more, at, board) + own;
+        return held_walk(plan, choice, d + 1, more, at, board, tallies) + own;
     }
-    let before = later + transfer_count(plan, d, n);
+    let before = later + transfer_count(plan, d, n, tallies);
     if at <= before {
         return own;
     }
     if d + 1 == plan.axes as usize {
         return 0;
     }
-    let below = walk_count(plan, d + 1, n);
+    let below = walk_count(plan, d + 1, n, tallies);
     if below + 1 < at - before {
         return 0;
     }
-    held_walk(plan, child, d + 1, n, at - before - 1, board) + own
+    held_walk(plan, child, d + 1, n, at - before - 1, board, tallies) + own
 }
 
 // At a position of the whole list.
@@ -67,7 +78,8 @@ pub fn held_at(plan: Plan, at: u64, board: u64) -> u64
         return 0;
     }
     let root = Choice::full(plan.axes);
-    held_walk(plan, root, 0, 1, at - 1, board)
+    let tallies = tallies_of(plan);
+    held_walk(plan, root, 0, 1, at - 1, board, tallies)
 }
 
 // The public entry: the number of cells that a board holds at a position, or the refusal.

@@ -5,10 +5,13 @@ ghost use Rattle.planner.specs.Refusals.{planRefusal};
 ghost use Rattle.boards.specs.Steps.{visit, walk, steps};
 ghost use Rattle.boards.specs.Finding.{planGrid, summedIn, found, Walking, Sending};
 ghost use Rattle.boards.specs.Answers.{told, telling, toldAt, toldOf};
+ghost use Rattle.grid.specs.Tallied.{Tallied};
 use boards::types::Step;
 use boards::types::Transfer;
 use cube::types::Choice;
+use grid::counts::Tallies;
 use grid::counts::parts_of;
+use grid::counts::tallies_of;
 use grid::counts::transfer_count;
 use grid::counts::walk_count;
 use grid::places::board_of;
@@ -38,29 +41,29 @@ pub fn sending(plan: Plan, choice: Choice, d: usize, at: u64) -> Transfer
 
 // The step at a position of the walk over the children of a choice from place d on, taken from right to left: the later children, then the transfers
 // of the child that sums out the axis at d, then its visit. The axes before d that the choice keeps have n labellings.
-pub fn walk(plan: Plan, choice: Choice, d: usize, n: u64, at: u64) -> Step
-    requires { ⌜ Walking plan (choice .mask) d n ⌝ }
+pub fn walk(plan: Plan, choice: Choice, d: usize, n: u64, at: u64, tallies: Tallies) -> Step
+    requires { ⌜ (Walking plan (choice .mask) d n) × (Tallied plan tallies) ⌝ }
     ensures { λ r. ⌜ told r ≡ toldAt (planGrid plan) (walk (planGrid plan) (plan .axes - d) d (summedIn plan (choice .mask))) at ⌝ }
 {
     if d == plan.axes as usize {
         return Step::Done;
     }
     let more = n * parts_of(plan, d);
-    let later = walk_count(plan, d + 1, more);
+    let later = walk_count(plan, d + 1, more, tallies);
     if at < later {
-        return walk(plan, choice, d + 1, more, at);
+        return walk(plan, choice, d + 1, more, at, tallies);
     }
     let child = choice.without(plan.order[d]);
-    let sent = transfer_count(plan, d, n);
+    let sent = transfer_count(plan, d, n, tallies);
     if at - later < sent {
         return Step::Transfer(sending(plan, child, d, at - later));
     }
-    visit(plan, child, d + 1, n, at - later - sent)
+    visit(plan, child, d + 1, n, at - later - sent, tallies)
 }
 
 // The step at a position of the visit of a choice whose children begin at place d: it is expanded if it has any, and finished after them.
-pub fn visit(plan: Plan, choice: Choice, d: usize, n: u64, at: u64) -> Step
-    requires { ⌜ Walking plan (choice .mask) d n ⌝ }
+pub fn visit(plan: Plan, choice: Choice, d: usize, n: u64, at: u64, tallies: Tallies) -> Step
+    requires { ⌜ (Walking plan (choice .mask) d n) × (Tallied plan tallies) ⌝ }
     ensures { λ r. ⌜ told r ≡ toldAt (planGrid plan) (visit (summedIn plan (choice .mask)) (plan .axes - d) (walk (planGrid plan) (plan .axes - d) d (summedIn plan (choice .mask)))) at ⌝ }
 {
     if d == plan.axes as usize {
@@ -72,9 +75,9 @@ pub fn visit(plan: Plan, choice: Choice, d: usize, n: u64, at: u64) -> Step
     if at == 0 {
         return Step::Expand(choice);
     }
-    let below = walk_count(plan, d, n);
+    let below = walk_count(plan, d, n, tallies);
     if at - 1 < below {
-        return walk(plan, choice, d, n, at - 1);
+        return walk(plan, choice, d, n, at - 1, tallies);
     }
     if at - 1 == below {
         return Step::Finish(choice);
@@ -91,5 +94,6 @@ pub fn step_at(plan: Plan, at: u64) -> Step
     if at == 0 {
         return Step::Expand(root);
     }
-    walk(plan, root, 0, 1, at - 1)
+    let tallies = tallies_of(plan);
+    walk(plan, root, 0, 1, at - 1, tallies)
 }

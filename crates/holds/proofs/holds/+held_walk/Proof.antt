@@ -181,7 +181,7 @@ held-walk-walk-count-requires : (t : ℕ) → held-walk-lts.Need-walk-count-requ
   transfer-count-reads.Asked,
   transfer-count-reads.Learnt,
 ) (held-walk-at t) held-walk.Post
-held-walk-walk-count-requires t c κs = let s = c .before .before .before .before .before in let gd = s .good .0 .1 .1 .1 .1 in let ok = passed-accepted (s .args .t1) (gd .0 .1 .0 .1) (gd .1 .0 .1 .0 .1) (gd .1 .1 .0 .1 .0 .1) (s .pre .1 .0 .passed) in let w = s .pre .1 .0 in let h : s .args .d < s .args .t1 .axes = omega (arith, w .within, c .before .before .before .before .if1 .left) in (w .passed, omega arith, rw (c .parts-of .ensures .0) (few ok (kept-on ok w h)))
+held-walk-walk-count-requires t c κs = let s = c .before .before .before .before .before in let gd = s .good .0 .1 .1 .1 .1 in let ok = passed-accepted (s .args .t1) (gd .0 .1 .0 .1) (gd .1 .0 .1 .0 .1) (gd .1 .1 .0 .1 .0 .1) (s .pre .1 .0 .passed) in let w = s .pre .1 .0 in let h : s .args .d < s .args .t1 .axes = omega (arith, w .within, c .before .before .before .before .if1 .left) in (w .passed, omega arith, rw (c .parts-of .ensures .0) (few ok (kept-on ok w h)), s .pre .1 .2)
 
 -- src/holds.rt:45:40
 held-walk-add-held-walk : (t : ℕ) → held-walk-lts.Need-add-held-walk (
@@ -215,7 +215,7 @@ held-walk-held-walk-requires : (t : ℕ) → held-walk-lts.Need-held-walk-requir
   transfer-count-reads.Asked,
   transfer-count-reads.Learnt,
 ) (held-walk-at t) held-walk.Post
-held-walk-held-walk-requires t c κs = let s = c .before .before .before .before .before .before .before in let gd = s .good .0 .1 .1 .1 .1 in let ok = passed-accepted (s .args .t1) (gd .0 .1 .0 .1) (gd .1 .0 .1 .0 .1) (gd .1 .1 .0 .1 .0 .1) (s .pre .1 .0 .passed) in let w = s .pre .1 .0 in let h : s .args .d < s .args .t1 .axes = omega (arith, w .within, c .before .before .before .before .before .before .if1 .left) in (omega (arith, s .pre .0), (rw (c .before .before .parts-of .ensures .0) (kept-on ok w h), s .pre .1 .1))
+held-walk-held-walk-requires t c κs = let s = c .before .before .before .before .before .before .before in let gd = s .good .0 .1 .1 .1 .1 in let ok = passed-accepted (s .args .t1) (gd .0 .1 .0 .1) (gd .1 .0 .1 .0 .1) (gd .1 .1 .0 .1 .0 .1) (s .pre .1 .0 .passed) in let w = s .pre .1 .0 in let h : s .args .d < s .args .t1 .axes = omega (arith, w .within, c .before .before .before .before .before .before .if1 .left) in (omega (arith, s .pre .0), (rw (c .before .before .parts-of .ensures .0) (kept-on ok w h), s .pre .1 .1, s .pre .1 .2))
 
 -- src/holds.rt:45:16
 held-walk-add-result : (t : ℕ) → held-walk-lts.Need-add-result (
@@ -266,7 +266,7 @@ held-walk-transfer-count-requires : (t : ℕ) → held-walk-lts.Need-transfer-co
   transfer-count-reads.Asked,
   transfer-count-reads.Learnt,
 ) (held-walk-at t) held-walk.Post
-held-walk-transfer-count-requires t c κs = let s = c .before .before .before .before .before .before .before in let gd = s .good .0 .1 .1 .1 .1 in let ok = passed-accepted (s .args .t1) (gd .0 .1 .0 .1) (gd .1 .0 .1 .0 .1) (gd .1 .1 .0 .1 .0 .1) (s .pre .1 .0 .passed) in let w = s .pre .1 .0 in let h : s .args .d < s .args .t1 .axes = omega (arith, w .within, c .before .before .before .before .before .before .if1 .left) in (w .passed, h, few ok w)
+held-walk-transfer-count-requires t c κs = let s = c .before .before .before .before .before .before .before in let gd = s .good .0 .1 .1 .1 .1 in let ok = passed-accepted (s .args .t1) (gd .0 .1 .0 .1) (gd .1 .0 .1 .0 .1) (gd .1 .1 .0 .1 .0 .1) (s .pre .1 .0 .passed) in let w = s .pre .1 .0 in let h : s .args .d < s .args .t1 .axes = omega (arith, w .within, c .before .before .before .before .before .before .if1 .left) in (w .passed, h, few ok w, s .pre .1 .2)
 
 -- src/holds.rt:47:18
 held-walk-add-before : (t : ℕ) → held-walk-lts.Need-add-before (
@@ -385,7 +385,7 @@ held-walk-walk-count-requires-2 : (t : ℕ) → held-walk-lts.Need-walk-count-re
   transfer-count-reads.Asked,
   transfer-count-reads.Learnt,
 ) (held-walk-at t) held-walk.Post
-held-walk-walk-count-requires-2 t c κs = let s = c .before .before .before .before .before .before .before .before .before .before in let gd = s .good .0 .1 .1 .1 .1 in let ok = passed-accepted (s .args .t1) (gd .0 .1 .0 .1) (gd .1 .0 .1 .0 .1) (gd .1 .1 .0 .1 .0 .1) (s .pre .1 .0 .passed) in let w = s .pre .1 .0 in let h : s .args .d < s .args .t1 .axes = omega (arith, w .within, c .before .before .before .before .before .before .before .before .before .if1 .left) in (w .passed, omega arith, few ok w)
+held-walk-walk-count-requires-2 t c κs = let s = c .before .before .before .before .before .before .before .before .before .before in let gd = s .good .0 .1 .1 .1 .1 in let ok = passed-accepted (s .args .t1) (gd .0 .1 .0 .1) (gd .1 .0 .1 .0 .1) (gd .1 .1 .0 .1 .0 .1) (s .pre .1 .0 .passed) in let w = s .pre .1 .0 in let h : s .args .d < s .args .t1 .axes = omega (arith, w .within, c .before .before .before .before .before .before .before .before .before .if1 .left) in (w .passed, omega arith, few ok w, s .pre .1 .2)
 
 -- src/holds.rt:55:8
 held-walk-add-if5 : (t : ℕ) → held-walk-lts.Need-add-if5 (
@@ -504,7 +504,7 @@ held-walk-held-walk-requires-2 : (t : ℕ) → held-walk-lts.Need-held-walk-requ
   transfer-count-reads.Asked,
   transfer-count-reads.Learnt,
 ) (held-walk-at t) held-walk.Post
-held-walk-held-walk-requires-2 t c κs = let s = c .before .before .before .before .before .before .before .before .before .before .before .before in let gd = s .good .0 .1 .1 .1 .1 in let ok = passed-accepted (s .args .t1) (gd .0 .1 .0 .1) (gd .1 .0 .1 .0 .1) (gd .1 .1 .0 .1 .0 .1) (s .pre .1 .0 .passed) in let w = s .pre .1 .0 in let h : s .args .d < s .args .t1 .axes = omega (arith, w .within, c .before .before .before .before .before .before .before .before .before .before .before .if1 .left) in (omega (arith, s .pre .0), (rw (c .before .before .before .before .before .before .before .before .before .without .ensures) (summed-out ok w h), s .pre .1 .1))
+held-walk-held-walk-requires-2 t c κs = let s = c .before .before .before .before .before .before .before .before .before .before .before .before in let gd = s .good .0 .1 .1 .1 .1 in let ok = passed-accepted (s .args .t1) (gd .0 .1 .0 .1) (gd .1 .0 .1 .0 .1) (gd .1 .1 .0 .1 .0 .1) (s .pre .1 .0 .passed) in let w = s .pre .1 .0 in let h : s .args .d < s .args .t1 .axes = omega (arith, w .within, c .before .before .before .before .before .before .before .before .before .before .before .if1 .left) in (omega (arith, s .pre .0), (rw (c .before .before .before .before .before .before .before .before .before .without .ensures) (summed-out ok w h), s .pre .1 .1, s .pre .1 .2))
 
 -- src/holds.rt:58:5
 held-walk-add-result-2 : (t : ℕ) → held-walk-lts.Need-add-result-2 (

@@ -55,7 +55,7 @@ visit-returns : (t : ℕ) → visit-lts.Need-returns (
   walk-below t,
   walk.Post,
 ) (visit-at t) visit.Post
-visit-returns t c = let s = c .before .before .before in let gd = s .good .0 .1 .1 .1 .1 in let ok = passed-accepted (s .args .plan) (gd .0 .1 .0 .1) (gd .1 .0 .1 .0 .1) (gd .1 .1 .0 .1 .0 .1) (s .pre .1 .passed) in let w = s .pre .1 in leaf-finish ok w (c .before .if1 .taken) (c .if2 .taken)
+visit-returns t c = let s = c .before .before .before in let gd = s .good .0 .1 .1 .1 .1 in let ok = passed-accepted (s .args .plan) (gd .0 .1 .0 .1) (gd .1 .0 .1 .0 .1) (gd .1 .1 .0 .1 .0 .1) (s .pre .1 .0 .passed) in let w = s .pre .1 .0 in leaf-finish ok w (c .before .if1 .taken) (c .if2 .taken)
 
 -- src/steps.rt:70:9
 visit-returns-2 : (t : ℕ) → visit-lts.Need-returns-2 (
@@ -64,7 +64,7 @@ visit-returns-2 : (t : ℕ) → visit-lts.Need-returns-2 (
   walk-below t,
   walk.Post,
 ) (visit-at t) visit.Post
-visit-returns-2 t c = let s = c .before .before .before in let gd = s .good .0 .1 .1 .1 .1 in let ok = passed-accepted (s .args .plan) (gd .0 .1 .0 .1) (gd .1 .0 .1 .0 .1) (gd .1 .1 .0 .1 .0 .1) (s .pre .1 .passed) in let w = s .pre .1 in leaf-done ok w (c .before .if1 .taken) (c .if2 .left)
+visit-returns-2 t c = let s = c .before .before .before in let gd = s .good .0 .1 .1 .1 .1 in let ok = passed-accepted (s .args .plan) (gd .0 .1 .0 .1) (gd .1 .0 .1 .0 .1) (gd .1 .1 .0 .1 .0 .1) (s .pre .1 .0 .passed) in let w = s .pre .1 .0 in leaf-done ok w (c .before .if1 .taken) (c .if2 .left)
 
 -- src/steps.rt:73:9
 visit-returns-3 : (t : ℕ) → visit-lts.Need-returns-3 (
@@ -73,7 +73,7 @@ visit-returns-3 : (t : ℕ) → visit-lts.Need-returns-3 (
   walk-below t,
   walk.Post,
 ) (visit-at t) visit.Post
-visit-returns-3 t c = let s = c .before .before .before in let gd = s .good .0 .1 .1 .1 .1 in let ok = passed-accepted (s .args .plan) (gd .0 .1 .0 .1) (gd .1 .0 .1 .0 .1) (gd .1 .1 .0 .1 .0 .1) (s .pre .1 .passed) in let w = s .pre .1 in let h : s .args .d < s .args .plan .axes = omega (arith, w .within, c .before .if1 .left) in visit-first ok w h (c .if3 .taken)
+visit-returns-3 t c = let s = c .before .before .before in let gd = s .good .0 .1 .1 .1 .1 in let ok = passed-accepted (s .args .plan) (gd .0 .1 .0 .1) (gd .1 .0 .1 .0 .1) (gd .1 .1 .0 .1 .0 .1) (s .pre .1 .0 .passed) in let w = s .pre .1 .0 in let h : s .args .d < s .args .plan .axes = omega (arith, w .within, c .before .if1 .left) in visit-first ok w h (c .if3 .taken)
 
 -- src/steps.rt:75:9
 visit-walk-count-requires : (t : ℕ) → visit-lts.Need-walk-count-requires (
@@ -82,7 +82,7 @@ visit-walk-count-requires : (t : ℕ) → visit-lts.Need-walk-count-requires (
   walk-below t,
   walk.Post,
 ) (visit-at t) visit.Post
-visit-walk-count-requires t c κs = let s = c .before .before .before in let gd = s .good .0 .1 .1 .1 .1 in let ok = passed-accepted (s .args .plan) (gd .0 .1 .0 .1) (gd .1 .0 .1 .0 .1) (gd .1 .1 .0 .1 .0 .1) (s .pre .1 .passed) in let w = s .pre .1 in (w .passed, w .within, few ok w)
+visit-walk-count-requires t c κs = let s = c .before .before .before in let gd = s .good .0 .1 .1 .1 .1 in let ok = passed-accepted (s .args .plan) (gd .0 .1 .0 .1) (gd .1 .0 .1 .0 .1) (gd .1 .1 .0 .1 .0 .1) (s .pre .1 .0 .passed) in let w = s .pre .1 .0 in (w .passed, w .within, few ok w, s .pre .1 .1)
 
 -- src/steps.rt:76:8
 visit-sub-if4 : (t : ℕ) → visit-lts.Need-sub-if4 (
@@ -109,7 +109,7 @@ visit-walk-requires : (t : ℕ) → visit-lts.Need-walk-requires (
   walk-below t,
   walk.Post,
 ) (visit-at t) visit.Post
-visit-walk-requires t c κs = let s = c .before .before .before .before .before in let gd = s .good .0 .1 .1 .1 .1 in let ok = passed-accepted (s .args .plan) (gd .0 .1 .0 .1) (gd .1 .0 .1 .0 .1) (gd .1 .1 .0 .1 .0 .1) (s .pre .1 .passed) in let w = s .pre .1 in (omega (arith, s .pre .0), w)
+visit-walk-requires t c κs = let s = c .before .before .before .before .before in let gd = s .good .0 .1 .1 .1 .1 in let ok = passed-accepted (s .args .plan) (gd .0 .1 .0 .1) (gd .1 .0 .1 .0 .1) (gd .1 .1 .0 .1 .0 .1) (s .pre .1 .0 .passed) in let w = s .pre .1 .0 in (omega (arith, s .pre .0), (w, s .pre .1 .1))
 
 -- src/steps.rt:77:9
 visit-returns-4 : (t : ℕ) → visit-lts.Need-returns-4 (
@@ -118,7 +118,7 @@ visit-returns-4 : (t : ℕ) → visit-lts.Need-returns-4 (
   walk-below t,
   walk.Post,
 ) (visit-at t) visit.Post
-visit-returns-4 t c = let s = c .before .before .before .before .before .before in let gd = s .good .0 .1 .1 .1 .1 in let ok = passed-accepted (s .args .plan) (gd .0 .1 .0 .1) (gd .1 .0 .1 .0 .1) (gd .1 .1 .0 .1 .0 .1) (s .pre .1 .passed) in let w = s .pre .1 in let h : s .args .d < s .args .plan .axes = omega (arith, w .within, c .before .before .before .before .if1 .left) in c .walk .ensures ∙ visit-walks ok w h (c .before .before .walk-count .ensures .0) (c .before .before .before .if3 .left) (c .before .if4 .taken)
+visit-returns-4 t c = let s = c .before .before .before .before .before .before in let gd = s .good .0 .1 .1 .1 .1 in let ok = passed-accepted (s .args .plan) (gd .0 .1 .0 .1) (gd .1 .0 .1 .0 .1) (gd .1 .1 .0 .1 .0 .1) (s .pre .1 .0 .passed) in let w = s .pre .1 .0 in let h : s .args .d < s .args .plan .axes = omega (arith, w .within, c .before .before .before .before .if1 .left) in c .walk .ensures ∙ visit-walks ok w h (c .before .before .walk-count .ensures .0) (c .before .before .before .if3 .left) (c .before .if4 .taken)
 
 -- src/steps.rt:79:8
 visit-sub-if5 : (t : ℕ) → visit-lts.Need-sub-if5 (
@@ -136,7 +136,7 @@ visit-returns-5 : (t : ℕ) → visit-lts.Need-returns-5 (
   walk-below t,
   walk.Post,
 ) (visit-at t) visit.Post
-visit-returns-5 t c = let s = c .before .before .before .before .before .before in let gd = s .good .0 .1 .1 .1 .1 in let ok = passed-accepted (s .args .plan) (gd .0 .1 .0 .1) (gd .1 .0 .1 .0 .1) (gd .1 .1 .0 .1 .0 .1) (s .pre .1 .passed) in let w = s .pre .1 in let h : s .args .d < s .args .plan .axes = omega (arith, w .within, c .before .before .before .before .if1 .left) in visit-last ok w h (c .before .before .walk-count .ensures .0) (c .before .before .before .if3 .left) (c .if5 .taken)
+visit-returns-5 t c = let s = c .before .before .before .before .before .before in let gd = s .good .0 .1 .1 .1 .1 in let ok = passed-accepted (s .args .plan) (gd .0 .1 .0 .1) (gd .1 .0 .1 .0 .1) (gd .1 .1 .0 .1 .0 .1) (s .pre .1 .0 .passed) in let w = s .pre .1 .0 in let h : s .args .d < s .args .plan .axes = omega (arith, w .within, c .before .before .before .before .if1 .left) in visit-last ok w h (c .before .before .walk-count .ensures .0) (c .before .before .before .if3 .left) (c .if5 .taken)
 
 -- src/steps.rt:62:1
 visit-returns-6 : (t : ℕ) → visit-lts.Need-returns-6 (
@@ -145,7 +145,7 @@ visit-returns-6 : (t : ℕ) → visit-lts.Need-returns-6 (
   walk-below t,
   walk.Post,
 ) (visit-at t) visit.Post
-visit-returns-6 t c = let s = c .before .before .before .before .before .before in let gd = s .good .0 .1 .1 .1 .1 in let ok = passed-accepted (s .args .plan) (gd .0 .1 .0 .1) (gd .1 .0 .1 .0 .1) (gd .1 .1 .0 .1 .0 .1) (s .pre .1 .passed) in let w = s .pre .1 in let h : s .args .d < s .args .plan .axes = omega (arith, w .within, c .before .before .before .before .if1 .left) in visit-past ok w h (c .before .before .walk-count .ensures .0) (c .before .before .before .if3 .left) (c .before .if4 .left) (c .if5 .left)
+visit-returns-6 t c = let s = c .before .before .before .before .before .before in let gd = s .good .0 .1 .1 .1 .1 in let ok = passed-accepted (s .args .plan) (gd .0 .1 .0 .1) (gd .1 .0 .1 .0 .1) (gd .1 .1 .0 .1 .0 .1) (s .pre .1 .0 .passed) in let w = s .pre .1 .0 in let h : s .args .d < s .args .plan .axes = omega (arith, w .within, c .before .before .before .before .if1 .left) in visit-past ok w h (c .before .before .walk-count .ensures .0) (c .before .before .before .if3 .left) (c .before .if4 .left) (c .if5 .left)
 
 -- src/steps.rt:45:13
 walk-cast-if1 : (t : ℕ) → walk-lts.Need-cast-if1 (
@@ -183,7 +183,7 @@ walk-returns : (t : ℕ) → walk-lts.Need-returns (
   visit-below t,
   visit.Post,
 ) (walk-at t) walk.Post
-walk-returns t c = let s = c .before in let gd = s .good .0 .1 .1 .1 .1 in let ok = passed-accepted (s .args .t1) (gd .0 .1 .0 .1) (gd .1 .0 .1 .0 .1) (gd .1 .1 .0 .1 .0 .1) (s .pre .1 .passed) in let w = s .pre .1 in walk-done ok w (c .if1 .taken) (s .args .at)
+walk-returns t c = let s = c .before in let gd = s .good .0 .1 .1 .1 .1 in let ok = passed-accepted (s .args .t1) (gd .0 .1 .0 .1) (gd .1 .0 .1 .0 .1) (gd .1 .1 .0 .1 .0 .1) (s .pre .1 .0 .passed) in let w = s .pre .1 .0 in walk-done ok w (c .if1 .taken) (s .args .at)
 
 -- src/steps.rt:48:20
 walk-parts-of-requires : (t : ℕ) → walk-lts.Need-parts-of-requires (
@@ -202,7 +202,7 @@ walk-parts-of-requires : (t : ℕ) → walk-lts.Need-parts-of-requires (
   visit-below t,
   visit.Post,
 ) (walk-at t) walk.Post
-walk-parts-of-requires t c κs = let s = c .before in let gd = s .good .0 .1 .1 .1 .1 in let ok = passed-accepted (s .args .t1) (gd .0 .1 .0 .1) (gd .1 .0 .1 .0 .1) (gd .1 .1 .0 .1 .0 .1) (s .pre .1 .passed) in let w = s .pre .1 in let h : s .args .d < s .args .t1 .axes = omega (arith, w .within, c .if1 .left) in (w .passed, h)
+walk-parts-of-requires t c κs = let s = c .before in let gd = s .good .0 .1 .1 .1 .1 in let ok = passed-accepted (s .args .t1) (gd .0 .1 .0 .1) (gd .1 .0 .1 .0 .1) (gd .1 .1 .0 .1 .0 .1) (s .pre .1 .0 .passed) in let w = s .pre .1 .0 in let h : s .args .d < s .args .t1 .axes = omega (arith, w .within, c .if1 .left) in (w .passed, h)
 
 -- src/steps.rt:48:16
 walk-mul-more : (t : ℕ) → walk-lts.Need-mul-more (
@@ -221,7 +221,7 @@ walk-mul-more : (t : ℕ) → walk-lts.Need-mul-more (
   visit-below t,
   visit.Post,
 ) (walk-at t) walk.Post
-walk-mul-more t c = let s = c .before .before in let gd = s .good .0 .1 .1 .1 .1 in let ok = passed-accepted (s .args .t1) (gd .0 .1 .0 .1) (gd .1 .0 .1 .0 .1) (gd .1 .1 .0 .1 .0 .1) (s .pre .1 .passed) in let w = s .pre .1 in let h : s .args .d < s .args .t1 .axes = omega (arith, w .within, c .before .if1 .left) in rw (c .parts-of .ensures .0) (let f = few ok (kept-on ok w h) in omega arith)
+walk-mul-more t c = let s = c .before .before in let gd = s .good .0 .1 .1 .1 .1 in let ok = passed-accepted (s .args .t1) (gd .0 .1 .0 .1) (gd .1 .0 .1 .0 .1) (gd .1 .1 .0 .1 .0 .1) (s .pre .1 .0 .passed) in let w = s .pre .1 .0 in let h : s .args .d < s .args .t1 .axes = omega (arith, w .within, c .before .if1 .left) in rw (c .parts-of .ensures .0) (let f = few ok (kept-on ok w h) in omega arith)
 
 -- src/steps.rt:49:34
 walk-add-walk-count : (t : ℕ) → walk-lts.Need-add-walk-count (
@@ -240,7 +240,7 @@ walk-add-walk-count : (t : ℕ) → walk-lts.Need-add-walk-count (
   visit-below t,
   visit.Post,
 ) (walk-at t) walk.Post
-walk-add-walk-count t c = let s = c .before .before in let gd = s .good .0 .1 .1 .1 .1 in let ok = passed-accepted (s .args .t1) (gd .0 .1 .0 .1) (gd .1 .0 .1 .0 .1) (gd .1 .1 .0 .1 .0 .1) (s .pre .1 .passed) in let w = s .pre .1 in let h : s .args .d < s .args .t1 .axes = omega (arith, w .within, c .before .if1 .left) in let f = few-axes ok in omega arith
+walk-add-walk-count t c = let s = c .before .before in let gd = s .good .0 .1 .1 .1 .1 in let ok = passed-accepted (s .args .t1) (gd .0 .1 .0 .1) (gd .1 .0 .1 .0 .1) (gd .1 .1 .0 .1 .0 .1) (s .pre .1 .0 .passed) in let w = s .pre .1 .0 in let h : s .args .d < s .args .t1 .axes = omega (arith, w .within, c .before .if1 .left) in let f = few-axes ok in omega arith
 
 -- src/steps.rt:49:9
 walk-walk-count-requires : (t : ℕ) → walk-lts.Need-walk-count-requires (
@@ -259,7 +259,7 @@ walk-walk-count-requires : (t : ℕ) → walk-lts.Need-walk-count-requires (
   visit-below t,
   visit.Post,
 ) (walk-at t) walk.Post
-walk-walk-count-requires t c κs = let s = c .before .before in let gd = s .good .0 .1 .1 .1 .1 in let ok = passed-accepted (s .args .t1) (gd .0 .1 .0 .1) (gd .1 .0 .1 .0 .1) (gd .1 .1 .0 .1 .0 .1) (s .pre .1 .passed) in let w = s .pre .1 in let h : s .args .d < s .args .t1 .axes = omega (arith, w .within, c .before .if1 .left) in (w .passed, omega arith, rw (c .parts-of .ensures .0) (few ok (kept-on ok w h)))
+walk-walk-count-requires t c κs = let s = c .before .before in let gd = s .good .0 .1 .1 .1 .1 in let ok = passed-accepted (s .args .t1) (gd .0 .1 .0 .1) (gd .1 .0 .1 .0 .1) (gd .1 .1 .0 .1 .0 .1) (s .pre .1 .0 .passed) in let w = s .pre .1 .0 in let h : s .args .d < s .args .t1 .axes = omega (arith, w .within, c .before .if1 .left) in (w .passed, omega arith, rw (c .parts-of .ensures .0) (few ok (kept-on ok w h)), s .pre .1 .1)
 
 -- src/steps.rt:51:35
 walk-add-walk : (t : ℕ) → walk-lts.Need-add-walk (
@@ -278,7 +278,7 @@ walk-add-walk : (t : ℕ) → walk-lts.Need-add-walk (
   visit-below t,
   visit.Post,
 ) (walk-at t) walk.Post
-walk-add-walk t c = let s = c .before .before .before .before in let gd = s .good .0 .1 .1 .1 .1 in let ok = passed-accepted (s .args .t1) (gd .0 .1 .0 .1) (gd .1 .0 .1 .0 .1) (gd .1 .1 .0 .1 .0 .1) (s .pre .1 .passed) in let w = s .pre .1 in let h : s .args .d < s .args .t1 .axes = omega (arith, w .within, c .before .before .before .if1 .left) in let f = few-axes ok in omega arith
+walk-add-walk t c = let s = c .before .before .before .before in let gd = s .good .0 .1 .1 .1 .1 in let ok = passed-accepted (s .args .t1) (gd .0 .1 .0 .1) (gd .1 .0 .1 .0 .1) (gd .1 .1 .0 .1 .0 .1) (s .pre .1 .0 .passed) in let w = s .pre .1 .0 in let h : s .args .d < s .args .t1 .axes = omega (arith, w .within, c .before .before .before .if1 .left) in let f = few-axes ok in omega arith
 
 -- src/steps.rt:51:9
 walk-walk-requires : (t : ℕ) → walk-lts.Need-walk-requires (
@@ -297,7 +297,7 @@ walk-walk-requires : (t : ℕ) → walk-lts.Need-walk-requires (
   visit-below t,
   visit.Post,
 ) (walk-at t) walk.Post
-walk-walk-requires t c κs = let s = c .before .before .before .before in let gd = s .good .0 .1 .1 .1 .1 in let ok = passed-accepted (s .args .t1) (gd .0 .1 .0 .1) (gd .1 .0 .1 .0 .1) (gd .1 .1 .0 .1 .0 .1) (s .pre .1 .passed) in let w = s .pre .1 in let h : s .args .d < s .args .t1 .axes = omega (arith, w .within, c .before .before .before .if1 .left) in (omega (arith, s .pre .0), rw (c .before .before .parts-of .ensures .0) (kept-on ok w h))
+walk-walk-requires t c κs = let s = c .before .before .before .before in let gd = s .good .0 .1 .1 .1 .1 in let ok = passed-accepted (s .args .t1) (gd .0 .1 .0 .1) (gd .1 .0 .1 .0 .1) (gd .1 .1 .0 .1 .0 .1) (s .pre .1 .0 .passed) in let w = s .pre .1 .0 in let h : s .args .d < s .args .t1 .axes = omega (arith, w .within, c .before .before .before .if1 .left) in (omega (arith, s .pre .0), (rw (c .before .before .parts-of .ensures .0) (kept-on ok w h), s .pre .1 .1))
 
 -- src/steps.rt:51:9
 walk-returns-2 : (t : ℕ) → walk-lts.Need-returns-2 (
@@ -316,7 +316,7 @@ walk-returns-2 : (t : ℕ) → walk-lts.Need-returns-2 (
   visit-below t,
   visit.Post,
 ) (walk-at t) walk.Post
-walk-returns-2 t c = let s = c .before .before .before .before .before in let gd = s .good .0 .1 .1 .1 .1 in let ok = passed-accepted (s .args .t1) (gd .0 .1 .0 .1) (gd .1 .0 .1 .0 .1) (gd .1 .1 .0 .1 .0 .1) (s .pre .1 .passed) in let w = s .pre .1 in let h : s .args .d < s .args .t1 .axes = omega (arith, w .within, c .before .before .before .before .if1 .left) in let e = rw (c .before .before .before .parts-of .ensures .0) at (c .before .before .walk-count .ensures .0) in c .walk .ensures ∙ walk-later ok w h e (c .before .if2 .taken)
+walk-returns-2 t c = let s = c .before .before .before .before .before in let gd = s .good .0 .1 .1 .1 .1 in let ok = passed-accepted (s .args .t1) (gd .0 .1 .0 .1) (gd .1 .0 .1 .0 .1) (gd .1 .1 .0 .1 .0 .1) (s .pre .1 .0 .passed) in let w = s .pre .1 .0 in let h : s .args .d < s .args .t1 .axes = omega (arith, w .within, c .before .before .before .before .if1 .left) in let e = rw (c .before .before .before .parts-of .ensures .0) at (c .before .before .walk-count .ensures .0) in c .walk .ensures ∙ walk-later ok w h e (c .before .if2 .taken)
 
 -- src/steps.rt:53:32
 walk-element-copy-out-without : (t : ℕ) → walk-lts.Need-element-copy-out-without (
@@ -335,7 +335,7 @@ walk-element-copy-out-without : (t : ℕ) → walk-lts.Need-element-copy-out-wit
   visit-below t,
   visit.Post,
 ) (walk-at t) walk.Post
-walk-element-copy-out-without t c = let s = c .before .before .before .before in let gd = s .good .0 .1 .1 .1 .1 in let ok = passed-accepted (s .args .t1) (gd .0 .1 .0 .1) (gd .1 .0 .1 .0 .1) (gd .1 .1 .0 .1 .0 .1) (s .pre .1 .passed) in let w = s .pre .1 in let h : s .args .d < s .args .t1 .axes = omega (arith, w .within, c .before .before .before .if1 .left) in let f = few-axes ok in omega arith
+walk-element-copy-out-without t c = let s = c .before .before .before .before in let gd = s .good .0 .1 .1 .1 .1 in let ok = passed-accepted (s .args .t1) (gd .0 .1 .0 .1) (gd .1 .0 .1 .0 .1) (gd .1 .1 .0 .1 .0 .1) (s .pre .1 .0 .passed) in let w = s .pre .1 .0 in let h : s .args .d < s .args .t1 .axes = omega (arith, w .within, c .before .before .before .if1 .left) in let f = few-axes ok in omega arith
 
 -- src/steps.rt:53:9
 walk-without-requires : (t : ℕ) → walk-lts.Need-without-requires (
@@ -373,7 +373,7 @@ walk-transfer-count-requires : (t : ℕ) → walk-lts.Need-transfer-count-requir
   visit-below t,
   visit.Post,
 ) (walk-at t) walk.Post
-walk-transfer-count-requires t c κs = let s = c .before .before .before .before .before .before in let gd = s .good .0 .1 .1 .1 .1 in let ok = passed-accepted (s .args .t1) (gd .0 .1 .0 .1) (gd .1 .0 .1 .0 .1) (gd .1 .1 .0 .1 .0 .1) (s .pre .1 .passed) in let w = s .pre .1 in let h : s .args .d < s .args .t1 .axes = omega (arith, w .within, c .before .before .before .before .before .if1 .left) in (w .passed, h, few ok w)
+walk-transfer-count-requires t c κs = let s = c .before .before .before .before .before .before in let gd = s .good .0 .1 .1 .1 .1 in let ok = passed-accepted (s .args .t1) (gd .0 .1 .0 .1) (gd .1 .0 .1 .0 .1) (gd .1 .1 .0 .1 .0 .1) (s .pre .1 .0 .passed) in let w = s .pre .1 .0 in let h : s .args .d < s .args .t1 .axes = omega (arith, w .within, c .before .before .before .before .before .if1 .left) in (w .passed, h, few ok w, s .pre .1 .1)
 
 -- src/steps.rt:56:31
 walk-sending-requires : (t : ℕ) → walk-lts.Need-sending-requires (
@@ -392,7 +392,7 @@ walk-sending-requires : (t : ℕ) → walk-lts.Need-sending-requires (
   visit-below t,
   visit.Post,
 ) (walk-at t) walk.Post
-walk-sending-requires t c κs = let s = c .before .before .before .before .before .before .before .before in let gd = s .good .0 .1 .1 .1 .1 in let ok = passed-accepted (s .args .t1) (gd .0 .1 .0 .1) (gd .1 .0 .1 .0 .1) (gd .1 .1 .0 .1 .0 .1) (s .pre .1 .passed) in let w = s .pre .1 in let h : s .args .d < s .args .t1 .axes = omega (arith, w .within, c .before .before .before .before .before .before .before .if1 .left) in let o = c .before .transfer-count .ensures .0 in rw (c .before .before .without .ensures) (sending ok w h (omega (arith, o, c .if3 .taken)))
+walk-sending-requires t c κs = let s = c .before .before .before .before .before .before .before .before in let gd = s .good .0 .1 .1 .1 .1 in let ok = passed-accepted (s .args .t1) (gd .0 .1 .0 .1) (gd .1 .0 .1 .0 .1) (gd .1 .1 .0 .1 .0 .1) (s .pre .1 .0 .passed) in let w = s .pre .1 .0 in let h : s .args .d < s .args .t1 .axes = omega (arith, w .within, c .before .before .before .before .before .before .before .if1 .left) in let o = c .before .transfer-count .ensures .0 in rw (c .before .before .without .ensures) (sending ok w h (omega (arith, o, c .if3 .taken)))
 
 -- src/steps.rt:56:9
 walk-returns-3 : (t : ℕ) → walk-lts.Need-returns-3 (
@@ -411,7 +411,7 @@ walk-returns-3 : (t : ℕ) → walk-lts.Need-returns-3 (
   visit-below t,
   visit.Post,
 ) (walk-at t) walk.Post
-walk-returns-3 t c = let s = c .before .before .before .before .before .before .before .before .before in let gd = s .good .0 .1 .1 .1 .1 in let ok = passed-accepted (s .args .t1) (gd .0 .1 .0 .1) (gd .1 .0 .1 .0 .1) (gd .1 .1 .0 .1 .0 .1) (s .pre .1 .passed) in let w = s .pre .1 in let h : s .args .d < s .args .t1 .axes = omega (arith, w .within, c .before .before .before .before .before .before .before .before .if1 .left) in let e = rw (c .before .before .before .before .before .before .before .parts-of .ensures .0) at (c .before .before .before .before .before .before .walk-count .ensures .0) in c .sending .ensures ∙ (rw (c .before .before .before .without .ensures) (walk-sends ok w h e (c .before .before .before .before .before .if2 .left) (c .before .before .transfer-count .ensures .0) (c .before .if3 .taken)))
+walk-returns-3 t c = let s = c .before .before .before .before .before .before .before .before .before in let gd = s .good .0 .1 .1 .1 .1 in let ok = passed-accepted (s .args .t1) (gd .0 .1 .0 .1) (gd .1 .0 .1 .0 .1) (gd .1 .1 .0 .1 .0 .1) (s .pre .1 .0 .passed) in let w = s .pre .1 .0 in let h : s .args .d < s .args .t1 .axes = omega (arith, w .within, c .before .before .before .before .before .before .before .before .if1 .left) in let e = rw (c .before .before .before .before .before .before .before .parts-of .ensures .0) at (c .before .before .before .before .before .before .walk-count .ensures .0) in c .sending .ensures ∙ (rw (c .before .before .before .without .ensures) (walk-sends ok w h e (c .before .before .before .before .before .if2 .left) (c .before .before .transfer-count .ensures .0) (c .before .if3 .taken)))
 
 -- src/steps.rt:58:24
 walk-add-visit : (t : ℕ) → walk-lts.Need-add-visit (
@@ -430,7 +430,7 @@ walk-add-visit : (t : ℕ) → walk-lts.Need-add-visit (
   visit-below t,
   visit.Post,
 ) (walk-at t) walk.Post
-walk-add-visit t c = let s = c .before .before .before .before .before .before .before .before in let gd = s .good .0 .1 .1 .1 .1 in let ok = passed-accepted (s .args .t1) (gd .0 .1 .0 .1) (gd .1 .0 .1 .0 .1) (gd .1 .1 .0 .1 .0 .1) (s .pre .1 .passed) in let w = s .pre .1 in let h : s .args .d < s .args .t1 .axes = omega (arith, w .within, c .before .before .before .before .before .before .before .if1 .left) in let f = few-axes ok in omega arith
+walk-add-visit t c = let s = c .before .before .before .before .before .before .before .before in let gd = s .good .0 .1 .1 .1 .1 in let ok = passed-accepted (s .args .t1) (gd .0 .1 .0 .1) (gd .1 .0 .1 .0 .1) (gd .1 .1 .0 .1 .0 .1) (s .pre .1 .0 .passed) in let w = s .pre .1 .0 in let h : s .args .d < s .args .t1 .axes = omega (arith, w .within, c .before .before .before .before .before .before .before .if1 .left) in let f = few-axes ok in omega arith
 
 -- src/steps.rt:58:34
 walk-sub-visit : (t : ℕ) → walk-lts.Need-sub-visit (
@@ -468,7 +468,7 @@ walk-visit-requires : (t : ℕ) → walk-lts.Need-visit-requires (
   visit-below t,
   visit.Post,
 ) (walk-at t) walk.Post
-walk-visit-requires t c κs = let s = c .before .before .before .before .before .before .before .before in let gd = s .good .0 .1 .1 .1 .1 in let ok = passed-accepted (s .args .t1) (gd .0 .1 .0 .1) (gd .1 .0 .1 .0 .1) (gd .1 .1 .0 .1 .0 .1) (s .pre .1 .passed) in let w = s .pre .1 in let h : s .args .d < s .args .t1 .axes = omega (arith, w .within, c .before .before .before .before .before .before .before .if1 .left) in (omega (arith, s .pre .0), rw (c .before .before .without .ensures) (summed-out ok w h))
+walk-visit-requires t c κs = let s = c .before .before .before .before .before .before .before .before in let gd = s .good .0 .1 .1 .1 .1 in let ok = passed-accepted (s .args .t1) (gd .0 .1 .0 .1) (gd .1 .0 .1 .0 .1) (gd .1 .1 .0 .1 .0 .1) (s .pre .1 .0 .passed) in let w = s .pre .1 .0 in let h : s .args .d < s .args .t1 .axes = omega (arith, w .within, c .before .before .before .before .before .before .before .if1 .left) in (omega (arith, s .pre .0), (rw (c .before .before .without .ensures) (summed-out ok w h), s .pre .1 .1))
 
 -- src/steps.rt:41:1
 walk-returns-4 : (t : ℕ) → walk-lts.Need-returns-4 (
@@ -487,7 +487,7 @@ walk-returns-4 : (t : ℕ) → walk-lts.Need-returns-4 (
   visit-below t,
   visit.Post,
 ) (walk-at t) walk.Post
-walk-returns-4 t c = let s = c .before .before .before .before .before .before .before .before .before in let gd = s .good .0 .1 .1 .1 .1 in let ok = passed-accepted (s .args .t1) (gd .0 .1 .0 .1) (gd .1 .0 .1 .0 .1) (gd .1 .1 .0 .1 .0 .1) (s .pre .1 .passed) in let w = s .pre .1 in let h : s .args .d < s .args .t1 .axes = omega (arith, w .within, c .before .before .before .before .before .before .before .before .if1 .left) in let e = rw (c .before .before .before .before .before .before .before .parts-of .ensures .0) at (c .before .before .before .before .before .before .walk-count .ensures .0) in c .visit .ensures ∙ (rw (c .before .before .before .without .ensures) (walk-visits ok w h e (c .before .before .before .before .before .if2 .left) (c .before .before .transfer-count .ensures .0) (c .before .if3 .left)))
+walk-returns-4 t c = let s = c .before .before .before .before .before .before .before .before .before in let gd = s .good .0 .1 .1 .1 .1 in let ok = passed-accepted (s .args .t1) (gd .0 .1 .0 .1) (gd .1 .0 .1 .0 .1) (gd .1 .1 .0 .1 .0 .1) (s .pre .1 .0 .passed) in let w = s .pre .1 .0 in let h : s .args .d < s .args .t1 .axes = omega (arith, w .within, c .before .before .before .before .before .before .before .before .if1 .left) in let e = rw (c .before .before .before .before .before .before .before .parts-of .ensures .0) at (c .before .before .before .before .before .before .walk-count .ensures .0) in c .visit .ensures ∙ (rw (c .before .before .before .without .ensures) (walk-visits ok w h e (c .before .before .before .before .before .if2 .left) (c .before .before .transfer-count .ensures .0) (c .before .if3 .left)))
 
 pub +visit+walk-spec : {M : Type 1} → statement M
 +visit+walk-spec = close μ-visit μ-walk (λ t. visit-lts.spec (

@@ -5,25 +5,29 @@ use borrow.Author.Needs.{needs}
 use Rattle.rack.proofs.steps.step_at.Statement.{statement}
 use Rattle.rack.proofs.steps.step_at.Tie as tie
 
--- src/steps.rt:90:9
+-- src/steps.rt:93:9
 full-requires : tie.Need-full-requires
 full-requires c κs = search needs
 
--- src/steps.rt:92:9
+-- src/steps.rt:95:9
 returns : tie.Need-returns
 returns c = let s = c .before .before in let gd = s .good .0 .1 .1 .1 .1 in let ok = passed-accepted (s .args .plan) (gd .0 .1 .0 .1) (gd .1 .0 .1 .0 .1) (gd .1 .1 .0 .1 .0 .1) (s .pre) in rw (c .before .full .ensures) (steps-first ok (s .pre) (c .if1 .taken))
 
--- src/steps.rt:94:28
+-- src/steps.rt:97:9
+tallies-of-requires : tie.Need-tallies-of-requires
+tallies-of-requires c κs = search needs
+
+-- src/steps.rt:98:28
 sub-walk : tie.Need-sub-walk
 sub-walk c = search needs
 
--- src/steps.rt:94:5
+-- src/steps.rt:98:5
 walk-requires : tie.Need-walk-requires
-walk-requires c κs = let s = c .before .before in let gd = s .good .0 .1 .1 .1 .1 in let ok = passed-accepted (s .args .plan) (gd .0 .1 .0 .1) (gd .1 .0 .1 .0 .1) (gd .1 .1 .0 .1 .0 .1) (s .pre) in rw (c .before .full .ensures) (root-walking ok (s .pre))
+walk-requires c κs = let s = c .before .before .before in let gd = s .good .0 .1 .1 .1 .1 in let ok = passed-accepted (s .args .plan) (gd .0 .1 .0 .1) (gd .1 .0 .1 .0 .1) (gd .1 .1 .0 .1 .0 .1) (s .pre) in (rw (c .before .before .full .ensures) (root-walking ok (s .pre)), c .tallies-of .ensures)
 
--- src/steps.rt:86:1
+-- src/steps.rt:89:1
 returns-2 : tie.Need-returns-2
-returns-2 c = let s = c .before .before .before in let gd = s .good .0 .1 .1 .1 .1 in let ok = passed-accepted (s .args .plan) (gd .0 .1 .0 .1) (gd .1 .0 .1 .0 .1) (gd .1 .1 .0 .1 .0 .1) (s .pre) in let e = rw (c .before .before .full .ensures) at (c .walk .ensures) in e ∙ steps-later ok (s .pre) (c .before .if1 .left)
+returns-2 c = let s = c .before .before .before .before in let gd = s .good .0 .1 .1 .1 .1 in let ok = passed-accepted (s .args .plan) (gd .0 .1 .0 .1) (gd .1 .0 .1 .0 .1) (gd .1 .1 .0 .1 .0 .1) (s .pre) in let e = rw (c .before .before .before .full .ensures) at (c .walk .ensures) in e ∙ steps-later ok (s .pre) (c .before .before .if1 .left)
 
 pub step-at-spec : {M : Type 1} → statement M
-step-at-spec = tie.close (tie.spec full-requires returns sub-walk walk-requires returns-2)
+step-at-spec = tie.close (tie.spec full-requires returns tallies-of-requires sub-walk walk-requires returns-2)
