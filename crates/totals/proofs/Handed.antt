@@ -242,7 +242,7 @@ begun κj aj rj sj hj κl al rl sl hl t j n κb ab rb sb hb p work₀ room =
     let m = hl (j ∙ hj ∙ ap judging (sym t), n) in
     record {
       judgement = hj;
-      loaded = λ z. p ∙ m .1 (ap (λ (x : Planned). x .refusal) j ∙ z) ∙ ap (λ x. campaignOf x .points) t;
+      loaded = λ z. p ∙ m .1 (ap (λ (x : Planned). x .refusal) j ∙ z) .0 ∙ ap (λ x. campaignOf x .points) t;
       small = hb;
       room = room;
     }

@@ -59,6 +59,10 @@ pub record Stands (tape : List ℕ) (judged : Planned) (k : ℕ) (points work : 
   pub judgement : judged ≡ judging tape
   pub running : judged .refusal ≡ 0 → Running tape (judged .plan) k points work at
 
+-- after k lines a group comes next: its line alone takes steps
+abbrev pub Grouping : Planned → ℕ → Type 0
+Grouping judged k = (judged .refusal ≡ 0) × (judged .plan .axes < k) × (k < judged .plan .axes + 2 ^ judged .plan .axes)
+
 -- a group's line from what is gathered
 unfoldable pub groupText : Plan → List ℤ → ℕ → ℕ → List ℤ → List ℕ
 groupText q work at mask cells = text "group" ++ fields (decimal mask ∷ signeds (gathering q work at cells))

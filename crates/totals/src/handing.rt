@@ -5,7 +5,7 @@ ghost use lib.ListN.{length};
 ghost use lib.Seq.{sets};
 ghost use Rattle.report.specs.Printed.{lineAt};
 ghost use Rattle.campaigns.specs.Judging.{judging};
-ghost use Rattle.totals.specs.Standing.{Small, Stands, campaignOf};
+ghost use Rattle.totals.specs.Standing.{Small, Grouping, Stands, campaignOf};
 use crate::groups::next_group;
 use crate::loading::bounded;
 use crate::loading::load;
@@ -29,7 +29,8 @@ pub fn next_line(
 ) -> usize
     requires { ⌜ Stands (now tape) judged handed (now points) (now work) (now position) × (length (now cells) ≡ 8192) × (length (now out) ≡ 172064) ⌝ }
     ensures { λ r. ⌜ (r ≡ length (lineAt (now (tape .entry)) handed)) × (r ≤ length (now (out .exit))) × (now (out .exit) ≡ sets (now (out .entry)) 0 (lineAt (now (tape .entry)) handed))
-        × Stands (now (tape .entry)) judged (handed + 1) (now (points .entry)) (now (work .exit)) (now (position .exit)) ⌝ }
+        × Stands (now (tape .entry)) judged (handed + 1) (now (points .entry)) (now (work .exit)) (now (position .exit))
+        × ((Grouping judged handed → ⊥) → (now (work .exit) ≡ now (work .entry)) × (now (position .exit) ≡ now (position .entry))) ⌝ }
 {
     if judged.refusal != 0 {
         if handed != 0 {

@@ -3,6 +3,7 @@ ghost use mathlib.Core.Path.{_≡_};
 ghost use Prim.Native.Nat.{_≤_};
 ghost use lib.ListN.{length, take};
 ghost use Rattle.campaigns.specs.Judging.{judging};
+ghost use Rattle.tape.specs.Reading.{reading};
 ghost use Rattle.totals.specs.Standing.{Small, campaignOf};
 use engine::refusals::points_of;
 use planner::types::Planned;
@@ -22,7 +23,8 @@ pub fn bounded(points: &[i32])
 // Puts the points at the start of the slice, and gives how many there are; none of a tape that is refused.
 pub fn load(tape: &[u8], judged: Planned, points: &mut [i32]) -> usize
     requires { ⌜ (judged ≡ judging (now tape)) × (length (now points) ≡ 8192) ⌝ }
-    ensures { λ r. ⌜ (r ≤ length (now (points .exit))) × (judged .refusal ≡ 0 → take r (now (points .exit)) ≡ campaignOf (now (tape .entry)) .points) ⌝ }
+    ensures { λ r. ⌜ (r ≤ length (now (points .exit))) × (judged .refusal ≡ 0 → (take r (now (points .exit)) ≡ campaignOf (now (tape .entry)) .points) × (now (points .exit) ≡ reading (now (tape .entry)) (now (points .entry))))
+        × ((judged .refusal ≡ 0 → ⊥) → (r ≡ 0) × (now (points .exit) ≡ now (points .entry))) ⌝ }
 {
     if judged.refusal != 0 {
         return 0;

@@ -24,7 +24,7 @@ returns c =
     let d = s .pre .0 in
     let h = c .before .if1 .taken in
     let e = refused-end (a .tape .now) (a .judged) (a .handed) (a .points .now) (a .work .now) (a .position .now) d h (c .if2 .taken) in
-    (ap length e, omega arith, ap (λ l. sets (a .out .now) 0 l) e, refused-stands (a .tape .now) (a .judged) (a .handed) (a .points .now) (a .work .now) (a .position .now) d h)
+    (ap length e, omega arith, ap (λ l. sets (a .out .now) 0 l) e, refused-stands (a .tape .now) (a .judged) (a .handed) (a .points .now) (a .work .now) (a .position .now) d h, λ h. (refl, refl))
 
 -- src/handing.rt:38:9
 refused-line-requires : tie.Need-refused-line-requires
@@ -42,7 +42,7 @@ returns-2 c =
     let d = s .pre .0 in
     let e = refused-line-is (a .tape .now) (a .judged) (a .handed) (a .points .now) (a .work .now) (a .position .now) d (c .before .before .before .before .before .if1 .taken) (c .before .before .before .before .if2 .left) in
     let p = c .before .before .refused-line in
-    (p .ensures .0 ∙ ap length e, p .ensures .1, p .ensures .2 ∙ ap (λ l. sets (a .out .now) 0 l) e, refused-stands (a .tape .now) (a .judged) (a .handed) (a .points .now) (a .work .now) (a .position .now) d (c .before .before .before .before .before .if1 .taken))
+    (p .ensures .0 ∙ ap length e, p .ensures .1, p .ensures .2 ∙ ap (λ l. sets (a .out .now) 0 l) e, refused-stands (a .tape .now) (a .judged) (a .handed) (a .points .now) (a .work .now) (a .position .now) d (c .before .before .before .before .before .if1 .taken), λ h. (refl, refl))
 
 -- src/handing.rt:43:9
 plan-line-requires : tie.Need-plan-line-requires
@@ -60,7 +60,7 @@ returns-3 c =
     let d = s .pre .0 in
     let e = plan-line-there (a .tape .now) (a .judged) (a .handed) (a .points .now) (a .work .now) (a .position .now) d (c .before .before .before .before .before .before .before .if1 .left) (c .before .before .before .before .before .if3 .taken) in
     let p = c .before .before .plan-line in
-    (p .ensures .0 ∙ ap length e, p .ensures .1, p .ensures .2 ∙ ap (λ l. sets (a .out .now) 0 l) e, head-stands (a .tape .now) (a .judged) (a .handed) (a .points .now) (a .work .now) (a .position .now) d (c .before .before .before .before .before .before .before .if1 .left) (let z = c .before .before .before .before .before .if3 .taken in omega arith))
+    (p .ensures .0 ∙ ap length e, p .ensures .1, p .ensures .2 ∙ ap (λ l. sets (a .out .now) 0 l) e, head-stands (a .tape .now) (a .judged) (a .handed) (a .points .now) (a .work .now) (a .position .now) d (c .before .before .before .before .before .before .before .if1 .left) (let z = c .before .before .before .before .before .if3 .taken in omega arith), λ h. (refl, refl))
 
 -- src/handing.rt:45:16
 cast-axes : tie.Need-cast-axes
@@ -91,7 +91,7 @@ returns-4 c =
     let d = s .pre .0 in
     let e = dim-line-there (a .tape .now) (a .judged) (a .handed) (a .points .now) (a .work .now) (a .position .now) d (c .before .before .before .before .before .before .before .before .if1 .left) (c .before .before .before .before .before .before .if3 .left) (c .before .before .before .before .if4 .taken) in
     let p = c .before .before .dim-line in
-    (p .ensures .0 ∙ ap length e, p .ensures .1, p .ensures .2 ∙ ap (λ l. sets (a .out .now) 0 l) e, head-stands (a .tape .now) (a .judged) (a .handed) (a .points .now) (a .work .now) (a .position .now) d (c .before .before .before .before .before .before .before .before .if1 .left) (c .before .before .before .before .if4 .taken))
+    (p .ensures .0 ∙ ap length e, p .ensures .1, p .ensures .2 ∙ ap (λ l. sets (a .out .now) 0 l) e, head-stands (a .tape .now) (a .judged) (a .handed) (a .points .now) (a .work .now) (a .position .now) d (c .before .before .before .before .before .before .before .before .if1 .left) (c .before .before .before .before .if4 .taken), λ h. (refl, refl))
 
 -- src/handing.rt:49:23
 shl-end : tie.Need-shl-end
@@ -147,7 +147,7 @@ returns-5 c =
     let n : a .handed < a .judged .plan .axes + 2 ^ a .judged .plan .axes = omega arith in
     let e = group-line-there (a .tape .now) (a .judged) (a .handed) (a .points .now) (a .work .now) (a .position .now) d z w n in
     let p = c .before .before .before .before .next-group in
-    (p .ensures .0 ∙ ap length e, p .ensures .1, p .ensures .2 ∙ ap (λ l. sets (a .out .now) 0 l) e, group-stands (a .tape .now) (a .judged) (a .handed) (a .points .now) (a .work .now) (a .position .now) d z w n (p .last .1 .1 .0) (p .last .1 .1 .1 .0) (p .ensures .3) (p .ensures .4))
+    (p .ensures .0 ∙ ap length e, p .ensures .1, p .ensures .2 ∙ ap (λ l. sets (a .out .now) 0 l) e, group-stands (a .tape .now) (a .judged) (a .handed) (a .points .now) (a .work .now) (a .position .now) d z w n (p .last .1 .1 .0) (p .last .1 .1 .1 .0) (p .ensures .3) (p .ensures .4), λ h. absurd (h (z, w, n)))
 
 -- src/handing.rt:54:30
 sub-end-line : tie.Need-sub-end-line
@@ -179,7 +179,7 @@ returns-6 c =
     let v = power-few (a .tape .now) (a .judged) (a .handed) (a .points .now) (a .work .now) (a .position .now) d z in
     let p = c .before .before .end-line in
     let e = end-line-there (a .tape .now) (a .judged) (a .handed) (a .points .now) (a .work .now) (a .position .now) d z w n in
-    (p .ensures .0 ∙ ap length (e _ (omega arith)), p .ensures .1, p .ensures .2 ∙ ap (λ l. sets (a .out .now) 0 l) (e _ (omega arith)), kept-stands (a .tape .now) (a .judged) (a .handed) (a .points .now) (a .work .now) (a .position .now) d z (λ l. omega arith) (omega arith))
+    (p .ensures .0 ∙ ap length (e _ (omega arith)), p .ensures .1, p .ensures .2 ∙ ap (λ l. sets (a .out .now) 0 l) (e _ (omega arith)), kept-stands (a .tape .now) (a .judged) (a .handed) (a .points .now) (a .work .now) (a .position .now) d z (λ l. omega arith) (omega arith), λ h. (refl, refl))
 
 -- src/handing.rt:20:1
 returns-7 : tie.Need-returns-7
@@ -194,7 +194,7 @@ returns-7 c =
     let o = c .if6 .left in
     let n : a .judged .plan .axes + 2 ^ a .judged .plan .axes < a .handed = omega (arith, o) in
     let e = over (a .tape .now) (a .judged) (a .handed) (a .points .now) (a .work .now) (a .position .now) d z w n in
-    (ap length e, omega arith, ap (λ l. sets (a .out .now) 0 l) e, kept-stands (a .tape .now) (a .judged) (a .handed) (a .points .now) (a .work .now) (a .position .now) d z (λ l. omega arith) (omega arith))
+    (ap length e, omega arith, ap (λ l. sets (a .out .now) 0 l) e, kept-stands (a .tape .now) (a .judged) (a .handed) (a .points .now) (a .work .now) (a .position .now) d z (λ l. omega arith) (omega arith), λ h. (refl, refl))
 
 pub next-line-spec : {M : Type 1} → statement M
 next-line-spec =

@@ -36,7 +36,7 @@ print-loaded-requires : tie.Need-print-loaded-requires
 print-loaded-requires c κs =
     let s = c .before .before .before .before .before .before .before .before .before .before .before in
     let l = c .before .before .before .before .before .before .load in
-    (c .before .before .before .before .before .before .before .before .judge .ensures, λ z. ap (λ k. take k (l .last .1 .1 .0)) (sub-zero (l .result)) ∙ l .ensures .1 z, s .pre .1, s .pre .2, s .pre .3)
+    (c .before .before .before .before .before .before .before .before .judge .ensures, λ z. ap (λ k. take k (l .last .1 .1 .0)) (sub-zero (l .result)) ∙ l .ensures .1 z .0, s .pre .1, s .pre .2, s .pre .3)
 
 -- src/handing.rt:102:1
 same-length : tie.Need-same-length

@@ -1,3 +1,4 @@
+use mathlib.Core.Path.{refl}
 use native.Mathlib.Omega.{arith}
 use Rattle.campaigns.proofs.Taken.{plan-passed, loaded, loaded-fits}
 use borrow.Author.Needs.{needs}
@@ -10,7 +11,7 @@ use Rattle.reader.proofs.fill.Reads as fill-reads
 
 -- src/loading.rt:28:9
 returns : tie.Need-returns
-returns c = (omega arith, λ z. absurd (c .if1 .taken z))
+returns c = (omega arith, λ z. absurd (c .if1 .taken z), λ h. (refl, refl))
 
 -- src/loading.rt:30:5
 fill-requires : tie.Need-fill-requires
@@ -36,7 +37,8 @@ returns-2 c =
     let a = s .args in
     let z = x .if1 .left in (
       loaded-fits (a .tape .now) (a .judged) (s .pre .0) z (a .points .now) (f .fill .last .1 .0) (s .pre .1) (f .fill .ensures .1) (c .points-of .result) (c .points-of .ensures),
-      λ y. loaded (a .tape .now) (a .judged) (s .pre .0) z (a .points .now) (f .fill .last .1 .0) (s .pre .1) (f .fill .ensures .1) (c .points-of .result) (c .points-of .ensures),
+      λ y. (loaded (a .tape .now) (a .judged) (s .pre .0) z (a .points .now) (f .fill .last .1 .0) (s .pre .1) (f .fill .ensures .1) (c .points-of .result) (c .points-of .ensures), f .fill .ensures .1),
+      λ h. absurd (h z),
     )
 
 pub load-spec : {M : Type 1} → statement M
