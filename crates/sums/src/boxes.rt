@@ -4,7 +4,7 @@ ghost use Prim.Native.Nat.{_+_, _*_, _≤_, _<_};
 ghost use lib.ListN.{length};
 ghost use Rattle.cube.specs.Boxes.{sumZ};
 ghost use Rattle.cells.specs.Wrapped.{wrapped};
-ghost use Rattle.cells.specs.Rows.{every, combs, written};
+ghost use Rattle.cells.specs.Rows.{every, combs, written, addedTo};
 ghost use Rattle.cells.specs.Strides.{boxSize, boxSums, Sums};
 use cells::rows::add_points;
 use cells::rows::clear;
@@ -91,14 +91,33 @@ fn sum_combs(
     }
 }
 
+// Adds four rows of n points, t apart, to n cells: a cell is fetched once for four points.
+fn add_four(work: &mut [i64], array: &[i32], at: usize, n: usize, t: usize, dst: usize)
+    requires { ⌜ (at + n * 1 + 4 * t < length (now array) + 1 + t) × (dst + n ≤ length (now work)) ⌝ }
+    ensures { λ _. ⌜ now (work .exit) ≡ written (now (work .entry)) dst n (addedTo (now (work .entry)) dst (combs (now (array .entry)) at 1 4 t)) ⌝ }
+{
+    for i in 0..n {
+        let x = sum_points(array, at + i, 4, t);
+        let old = work[dst + i];
+        work[dst + i] = wrapping_add(old, x);
+    }
+}
+
 // The same of neighbours, row by row: as many points apart as a sum has, registers would read each row's memory again and again.
 fn sum_rows(work: &mut [i64], array: &[i32], at: usize, n: usize, t: usize, e: usize, dst: usize)
     requires { ⌜ (at + n * 1 + e * t < length (now array) + 1 + t) × (0 < e) × (dst + n ≤ length (now work)) ⌝ }
     ensures { λ _. ⌜ now (work .exit) ≡ written (now (work .entry)) dst n (combs (now (array .entry)) at 1 e t) ⌝ }
 {
     clear(work, dst, n);
-    for m in 0..e {
-        add_points(work, array, at + m * t, dst, n);
+    let mut m: usize = 0;
+    while m < e {
+        if 4 <= e - m {
+            add_four(work, array, at + m * t, n, t, dst);
+            m += 4;
+        } else {
+            add_points(work, array, at + m * t, dst, n);
+            m += 1;
+        }
     }
 }
 
