@@ -13,8 +13,8 @@ use Rattle.cube.specs.Boxes.{sumZ}
 use Rattle.cells.specs.Wrapped.{residue, wrapped}
 use Rattle.cells.specs.Rows.{every}
 use Rattle.cells.proofs.Writing.{row-fits, sum-more}
-use Rattle.sums.proofs.boxes.sum_points.Statement.{statement}
-use Rattle.sums.proofs.boxes.sum_points.Tie as tie
+use Rattle.sums.proofs.summing.sum_points.Statement.{statement}
+use Rattle.sums.proofs.summing.sum_points.Tie as tie
 
 abbrev Inv-loop : tie.InvT-loop
 Inv-loop array at n step sum₀ m₀ sum m = (m ≤ n) × (toZ w64 sum ≡ wrapped (sumZ m (every array at step)))

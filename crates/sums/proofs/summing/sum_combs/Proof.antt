@@ -8,8 +8,8 @@ use lib.ListN.{length}
 use Rattle.cells.specs.Rows.{placed, written, combs}
 use Rattle.cells.proofs.Writing.{row-fits, joined}
 use Rattle.cells.proofs.Combs.{rows-fit, comb-shift}
-use Rattle.sums.proofs.boxes.sum_combs.Statement.{statement}
-use Rattle.sums.proofs.boxes.sum_combs.Tie as tie
+use Rattle.sums.proofs.summing.sum_combs.Statement.{statement}
+use Rattle.sums.proofs.summing.sum_combs.Tie as tie
 
 abbrev Inv-loop : tie.InvT-loop
 Inv-loop work₀ array at u n t e dst i₀ work i = (i ≤ n) × (length work ≡ length work₀) × (work ≡ written work₀ dst i (combs array at u e t))

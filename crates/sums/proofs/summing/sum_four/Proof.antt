@@ -11,8 +11,8 @@ use mir.Syntax.{w64}
 use Rattle.cells.specs.Rows.{combs}
 use Rattle.cells.proofs.Writing.{row-fits}
 use Rattle.cells.proofs.Combs.{comb-none, point-fits, comb-point, four-written}
-use Rattle.sums.proofs.boxes.sum_four.Statement.{statement}
-use Rattle.sums.proofs.boxes.sum_four.Tie as tie
+use Rattle.sums.proofs.summing.sum_four.Statement.{statement}
+use Rattle.sums.proofs.summing.sum_four.Tie as tie
 
 abbrev Inv-loop : tie.InvT-loop
 Inv-loop work array at u t e dst v w a₀ b₀ c₀ d₀ m₀ a b c d m = (m ≤ e) × (toZ w64 a ≡ combs array at u m t 0) × (toZ w64 b ≡ combs array at u m t 1) × (toZ w64 c ≡ combs array at u m t 2) × (toZ w64 d ≡ combs array at u m t 3)

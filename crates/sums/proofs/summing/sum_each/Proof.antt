@@ -10,8 +10,8 @@ use mir.Syntax.{w64}
 use native.Mathlib.Nat.{zero-mul}
 use Rattle.cells.specs.Rows.{placed, written, combs}
 use Rattle.cells.proofs.Writing.{row-fits, one-more}
-use Rattle.sums.proofs.boxes.sum_each.Statement.{statement}
-use Rattle.sums.proofs.boxes.sum_each.Tie as tie
+use Rattle.sums.proofs.summing.sum_each.Statement.{statement}
+use Rattle.sums.proofs.summing.sum_each.Tie as tie
 
 abbrev Inv-loop : tie.InvT-loop
 Inv-loop work₀ array at u n t e dst i₀ work i = (i ≤ n) × (length work ≡ length work₀) × (work ≡ written work₀ dst i (combs array at u e t))

@@ -14,13 +14,13 @@ use borrow.Author.Needs.{needs}
 use Prim.Native.Nat.{ℕ, _<_}
 use borrow.Fn.Kinds.{In}
 use borrow.Fn.PlainCycle.{Measures, is, falls, and}
-use Rattle.sums.proofs.boxes.sum_box.Reads as sum-box
-use Rattle.sums.proofs.boxes.sum_box.Kinds as sum-box-kinds
-use Rattle.sums.proofs.boxes.+sum_box.Lts-sum_box as sum-box-lts
-use Rattle.sums.proofs.boxes.sum_line.Reads as sum-line-reads
-use Rattle.sums.proofs.boxes.sum_points.Reads as sum-points-reads
-use Rattle.sums.proofs.boxes.+sum_box.{statement}
-use Rattle.sums.proofs.boxes.+sum_box.Tie.{close}
+use Rattle.sums.proofs.summing.sum_box.Reads as sum-box
+use Rattle.sums.proofs.summing.sum_box.Kinds as sum-box-kinds
+use Rattle.sums.proofs.summing.+sum_box.Lts-sum_box as sum-box-lts
+use Rattle.sums.proofs.summing.sum_line.Reads as sum-line-reads
+use Rattle.sums.proofs.summing.sum_points.Reads as sum-points-reads
+use Rattle.sums.proofs.summing.+sum_box.{statement}
+use Rattle.sums.proofs.summing.+sum_box.Tie.{close}
 
 abbrev μ-sum-box : Measures 4 sum-box-kinds.ps ℕ
 μ-sum-box κs a = a .1 .1 .1 .1 .0
