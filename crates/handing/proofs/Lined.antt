@@ -26,7 +26,8 @@ use Rattle.lines.specs.Reports.{planText, dimText}
 use Rattle.lines.proofs.Reporting.{plan-line-is, dim-line-is, axis-in}
 use Rattle.campaigns.specs.Judging.{judging}
 use Rattle.campaigns.proofs.Taken as Taken
-use Rattle.totals.specs.Standing.{campaignOf, Small, Ready, Running, Stands, groupsOf, groupsBefore}
+use Rattle.handing.specs.Standing.{campaignOf, Running, Stands}
+use Rattle.grouping.specs.Grouped.{Small, Ready, groupsOf, groupsBefore}
 
 grid-axes : (a : PlanLists) → gridOf a .axes ≡ length (a .lengths)
 unfolding gridOf

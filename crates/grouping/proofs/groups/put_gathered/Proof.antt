@@ -1,4 +1,4 @@
--- `totals::groups::put_gathered` meets its contract: the line is that of what was gathered.
+-- `grouping::groups::put_gathered` meets its contract: the line is that of what was gathered.
 use Prim.Native.Nat.{ℕ}
 use mathlib.Core.Path.{_≡_, _∙_, ap}
 use mathlib.Core.List.{List, _∷_, _++_}
@@ -9,12 +9,12 @@ use Rattle.planner.specs.declared.types.Plan.{Plan}
 use Rattle.memory.specs.Entries.{gathering}
 use Rattle.report.specs.Text.{text, decimal}
 use Rattle.report.specs.Printed.{fields, signeds}
-use Rattle.totals.specs.Standing.{groupText}
+use Rattle.grouping.specs.Grouped.{groupText}
 use borrow.Author.Needs.{needs}
-use Rattle.totals.proofs.groups.put_gathered.Statement.{statement}
-use Rattle.totals.proofs.groups.put_gathered.Tie as tie
-use Rattle.totals.proofs.groups.put_gathered.Reads as reads
-use Rattle.totals.proofs.groups.put_gathered.Lts as lts
+use Rattle.grouping.proofs.groups.put_gathered.Statement.{statement}
+use Rattle.grouping.proofs.groups.put_gathered.Tie as tie
+use Rattle.grouping.proofs.groups.put_gathered.Reads as reads
+use Rattle.grouping.proofs.groups.put_gathered.Lts as lts
 use Rattle.gathers.proofs.copying.gather.Reads as gather-reads
 use Rattle.lines.proofs.printing.put_group.Reads as put-group-reads
 

@@ -1,18 +1,18 @@
--- `totals::handing::print_lines` is safe and ends: each turn hands out a line more, and there are finitely many.
+-- `totals::writing::print_lines` is safe and ends: each turn hands out a line more, and there are finitely many.
 use Prim.Native.Nat.{ℕ, _+_, _-_, _≤_, _<_}
 use mathlib.Core.Path.{_≡_, sym, _∙_, refl, ap}
 use native.Mathlib.Omega.{arith}
 use borrow.Author.Needs.{needs}
 use lib.ListN.{length}
 use Rattle.report.specs.Printed.{printedLines}
-use Rattle.totals.specs.Standing.{Stands}
-use Rattle.totals.proofs.Lined.{begins, lines-few, line-some}
-use Rattle.totals.proofs.handing.print_lines.Statement.{statement}
-use Rattle.totals.proofs.handing.print_lines.Tie as tie
-use Rattle.totals.proofs.handing.print_lines.Reads as reads
-use Rattle.totals.proofs.handing.print_lines.Lts as lts
-use Rattle.totals.proofs.handing.next_line.Reads as next-line-reads
-use Rattle.totals.proofs.handing.write.Reads as write-reads
+use Rattle.handing.specs.Standing.{Stands}
+use Rattle.handing.proofs.Lined.{begins, lines-few, line-some}
+use Rattle.totals.proofs.writing.print_lines.Statement.{statement}
+use Rattle.totals.proofs.writing.print_lines.Tie as tie
+use Rattle.totals.proofs.writing.print_lines.Reads as reads
+use Rattle.totals.proofs.writing.print_lines.Lts as lts
+use Rattle.handing.proofs.next_line.Reads as next-line-reads
+use Rattle.totals.proofs.writing.write.Reads as write-reads
 
 abbrev Inv-loop : tie.InvT-loop
 Inv-loop tape judged points work₀ cells₀ out₀ handed₀ position₀ work cells out handed position =
@@ -21,54 +21,54 @@ Inv-loop tape judged points work₀ cells₀ out₀ handed₀ position₀ work c
 abbrev μ-loop : tie.MeasureT-loop
 μ-loop tape judged points work₀ cells₀ out₀ handed₀ position₀ work cells out handed position = length (printedLines tape) - handed
 
--- src/handing.rt:79:5
+-- src/writing.rt:33:5
 loop-holds : tie.Need-loop-holds Inv-loop μ-loop
 loop-holds c =
     let s = c .before .before in
     let a = s .args in
     (begins (a .tape .now) (a .judged) (s .pre .0) (a .points .now) (a .work .now) (s .pre .1) (s .pre .2) (s .pre .3), refl, s .pre .4, s .pre .5)
 
--- src/handing.rt:80:13
+-- src/writing.rt:34:13
 next-line-requires : tie.Need-next-line-requires Inv-loop μ-loop
 next-line-requires c κs = search needs
 
--- src/handing.rt:91:13
+-- src/writing.rt:45:13
 same-length : tie.Need-same-length Inv-loop μ-loop
 same-length c = search needs
 
--- src/handing.rt:91:13
+-- src/writing.rt:45:13
 same-length-2 : tie.Need-same-length-2 Inv-loop μ-loop
 same-length-2 c = search needs
 
--- src/handing.rt:91:13
+-- src/writing.rt:45:13
 same-length-3 : tie.Need-same-length-3 Inv-loop μ-loop
 same-length-3 c = search needs
 
--- src/handing.rt:91:13
+-- src/writing.rt:45:13
 returns : tie.Need-returns Inv-loop μ-loop
 returns c = tt
 
--- src/handing.rt:93:13
+-- src/writing.rt:47:13
 write-requires : tie.Need-write-requires Inv-loop μ-loop
 write-requires c κs = search needs
 
--- src/handing.rt:95:13
+-- src/writing.rt:49:13
 same-length-4 : tie.Need-same-length-4 Inv-loop μ-loop
 same-length-4 c = search needs
 
--- src/handing.rt:95:13
+-- src/writing.rt:49:13
 same-length-5 : tie.Need-same-length-5 Inv-loop μ-loop
 same-length-5 c = search needs
 
--- src/handing.rt:95:13
+-- src/writing.rt:49:13
 same-length-6 : tie.Need-same-length-6 Inv-loop μ-loop
 same-length-6 c = search needs
 
--- src/handing.rt:95:13
+-- src/writing.rt:49:13
 returns-2 : tie.Need-returns-2 Inv-loop μ-loop
 returns-2 c = tt
 
--- src/handing.rt:97:9
+-- src/writing.rt:51:9
 add-handed : tie.Need-add-handed Inv-loop μ-loop
 add-handed c =
     let nl = c .before .before .before .before .before .before .before .before .next-line in
@@ -79,7 +79,7 @@ add-handed c =
     let f = lines-few tape (s .args .judged) (s .pre .0) in
     record { fits = omega arith }
 
--- src/handing.rt:79:5
+-- src/writing.rt:33:5
 loop-less : tie.Need-loop-less Inv-loop μ-loop
 loop-less c =
     let nl = c .before .before .before .before .before .before .before .before .next-line in
@@ -89,7 +89,7 @@ loop-less c =
     let l = line-some tape (lp .loop .handed) (nl .result) (nl .ensures .0) (c .before .before .before .if1 .left) in
     omega arith
 
--- src/handing.rt:79:5
+-- src/writing.rt:33:5
 loop-again : tie.Need-loop-again Inv-loop μ-loop
 loop-again c =
     let nl = c .before .before .before .before .before .before .before .before .next-line in

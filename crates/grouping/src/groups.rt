@@ -7,7 +7,7 @@ ghost use lib.Seq.{sets};
 ghost use Rattle.cube.specs.Choices as Choices;
 ghost use Rattle.planner.specs.Plans.{listsOf};
 ghost use Rattle.planner.specs.Refusals.{planRefusal};
-ghost use Rattle.totals.specs.Standing.{Ready, groupsOf, groupsBefore, groupText};
+ghost use Rattle.grouping.specs.Grouped.{Ready, groupsOf, groupsBefore, groupText};
 use boards::types::Step;
 use cube::types::Choice;
 use engine::stepping::step;

@@ -1,4 +1,4 @@
--- `totals::groups::next_group` meets its contract. The invariant: the run is ready, and no group was printed since the call began.
+-- `grouping::groups::next_group` meets its contract. The invariant: the run is ready, and no group was printed since the call began.
 use Prim.Native.Nat.{ℕ, _+_, _-_, _≤_, _<_}
 use mathlib.Core.Path.{_≡_, sym, _∙_, refl, ap, ap₂}
 use native.Mathlib.Omega.{arith}
@@ -11,15 +11,15 @@ use Rattle.planner.specs.Plans.{stepCount, listsOf}
 use Rattle.planner.specs.Accepted.{Accepted}
 use Rattle.planner.proofs.Accepting.{passed-accepted}
 use Rattle.boards.specs.Answers.{told, finishes}
-use Rattle.totals.proofs.Turning.{work-length, all-printed, none-left, moved, turned, nothing-printed, one-printed, group-printed, part-length, no-finish}
-use Rattle.totals.specs.Standing.{Ready, groupsOf, groupsBefore, groupText}
-use Rattle.totals.proofs.groups.next_group.Statement.{statement}
-use Rattle.totals.proofs.groups.next_group.Tie as tie
-use Rattle.totals.proofs.groups.next_group.Reads as reads
-use Rattle.totals.proofs.groups.next_group.Lts as lts
+use Rattle.grouping.proofs.Turning.{work-length, all-printed, none-left, moved, turned, nothing-printed, one-printed, group-printed, part-length, no-finish}
+use Rattle.grouping.specs.Grouped.{Ready, groupsOf, groupsBefore, groupText}
+use Rattle.grouping.proofs.groups.next_group.Statement.{statement}
+use Rattle.grouping.proofs.groups.next_group.Tie as tie
+use Rattle.grouping.proofs.groups.next_group.Reads as reads
+use Rattle.grouping.proofs.groups.next_group.Lts as lts
 use Rattle.engine.proofs.stepping.step.Reads as step-reads
 use Rattle.grid.proofs.counts.steps_of.Reads as steps-of-reads
-use Rattle.totals.proofs.groups.put_finished.Reads as put-finished-reads
+use Rattle.grouping.proofs.groups.put_finished.Reads as put-finished-reads
 
 abbrev Inv-loop : tie.InvT-loop
 Inv-loop plan points work₀ position₀ cells₀ out₀ total work position cells out =

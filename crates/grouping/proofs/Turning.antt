@@ -34,7 +34,7 @@ use Rattle.memory.proofs.Refusing.{step-passed, countable}
 use Rattle.report.specs.Text.{text, decimal}
 use Rattle.report.specs.Printed.{fields, signeds, groupLine, groupLines}
 use Rattle.report.proofs.Groups.{passed-over, one-more, printed-there}
-use Rattle.totals.specs.Standing.{Ready, groupsOf, groupsBefore, groupText}
+use Rattle.grouping.specs.Grouped.{Ready, groupsOf, groupsBefore, groupText}
 
 -- the cases of the step enum that are no finish
 pub no-finish : (s : Step) → OneOf (0 ∷ 1 ∷ 3 ∷ 4 ∷ []) (Declared.tagOf Step-type.the-type s) → (mask : ℕ) → told s ≡ finishes mask → ⊥

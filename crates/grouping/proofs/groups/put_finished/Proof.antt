@@ -1,13 +1,13 @@
 use Rattle.planner.proofs.Accepting.{passed-accepted}
 use Rattle.memory.proofs.Refusing.{countable}
-use Rattle.totals.proofs.Counted.{count-is, count-fits, part-is, line-fits}
+use Rattle.grouping.proofs.Counted.{count-is, count-fits, part-is, line-fits}
 use borrow.Author.Needs.{needs}
-use Rattle.totals.proofs.groups.put_finished.Statement.{statement}
-use Rattle.totals.proofs.groups.put_finished.Tie as tie
-use Rattle.totals.proofs.groups.put_finished.Reads as reads
-use Rattle.totals.proofs.groups.put_finished.Lts as lts
+use Rattle.grouping.proofs.groups.put_finished.Statement.{statement}
+use Rattle.grouping.proofs.groups.put_finished.Tie as tie
+use Rattle.grouping.proofs.groups.put_finished.Reads as reads
+use Rattle.grouping.proofs.groups.put_finished.Lts as lts
 use Rattle.cube.proofs.types.Choice.cells.Reads as cells-reads
-use Rattle.totals.proofs.groups.put_gathered.Reads as put-gathered-reads
+use Rattle.grouping.proofs.groups.put_gathered.Reads as put-gathered-reads
 
 -- src/groups.rt:50:13
 cells-requires : tie.Need-cells-requires
