@@ -7,7 +7,7 @@ ghost use Rattle.planner.specs.Plans.{listsOf};
 ghost use Rattle.planner.specs.Refusals.{planRefusal};
 ghost use Rattle.memory.specs.Entries.{workCells, stepRefusal};
 use checks::plan_refusal;
-use cube::types::Choice;
+use choices::types::Choice;
 use grid::counts::steps_of;
 use grid::places::share_of;
 use planner::types::Plan;

@@ -14,7 +14,7 @@ use boards::types::Step;
 use boxes::copies::put_box;
 use boxes::merging::merge;
 use checks::plan_refusal;
-use cube::types::Choice;
+use choices::types::Choice;
 use engine::refusals::area_of;
 use grid::counts::steps_of;
 use grid::places::board_of;

@@ -11,7 +11,7 @@ ghost use Rattle.planner.specs.Refusals.{planRefusal};
 ghost use Rattle.boards.specs.Grids.{boards, boardWith, label, lead, box, cells, share, index};
 ghost use Rattle.boards.specs.Finding.{planGrid, summedIn, leads, leadLabel, Labels};
 use crate::counts::parts_of;
-use cube::types::Choice;
+use choices::types::Choice;
 use planner::types::Plan;
 use prices::pricing::region_of;
 

@@ -9,7 +9,7 @@ ghost use Rattle.planner.specs.Plans.{listsOf};
 ghost use Rattle.planner.specs.Refusals.{planRefusal};
 ghost use Rattle.grouping.specs.Grouped.{Ready, groupsOf, groupsBefore, groupText};
 use boards::types::Step;
-use cube::types::Choice;
+use choices::types::Choice;
 use engine::stepping::step;
 use gathers::copying::gather;
 use grid::counts::steps_of;

@@ -10,7 +10,7 @@ ghost use Rattle.boards.specs.Answers.{heldReply, holding};
 ghost use Rattle.grid.specs.Tallied.{Tallied};
 use boards::types::Held;
 use checks::plan_refusal;
-use cube::types::Choice;
+use choices::types::Choice;
 use grid::counts::Tallies;
 use grid::counts::parts_of;
 use grid::counts::steps_of;

@@ -12,7 +12,7 @@ ghost use Rattle.memory.specs.Memory.{read};
 ghost use Rattle.memory.specs.Expansions.{oneChild, Forms};
 use boxes::merging::merge;
 use cells::rows::sum_axis;
-use cube::types::Choice;
+use choices::types::Choice;
 use grid::places::cells_between;
 use grid::places::extent_of;
 use grid::places::labels_of;

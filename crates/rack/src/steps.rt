@@ -8,7 +8,7 @@ ghost use Rattle.boards.specs.Answers.{told, telling, toldAt, toldOf};
 ghost use Rattle.grid.specs.Tallied.{Tallied};
 use boards::types::Step;
 use boards::types::Transfer;
-use cube::types::Choice;
+use choices::types::Choice;
 use grid::counts::Tallies;
 use grid::counts::parts_of;
 use grid::counts::tallies_of;

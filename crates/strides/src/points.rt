@@ -8,7 +8,7 @@ ghost use Rattle.planner.specs.Refusals.{planRefusal};
 ghost use Rattle.boards.specs.Grids.{boardWith, box};
 ghost use Rattle.boards.specs.Finding.{planGrid, summedIn, Labels};
 ghost use Rattle.memory.specs.Copies.{keptAlong, cellStride};
-use cube::types::Choice;
+use choices::types::Choice;
 use grid::places::kept_extent;
 use grid::places::start_of;
 use planner::types::Plan;

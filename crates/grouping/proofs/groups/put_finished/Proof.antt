@@ -6,7 +6,7 @@ use Rattle.grouping.proofs.groups.put_finished.Statement.{statement}
 use Rattle.grouping.proofs.groups.put_finished.Tie as tie
 use Rattle.grouping.proofs.groups.put_finished.Reads as reads
 use Rattle.grouping.proofs.groups.put_finished.Lts as lts
-use Rattle.cube.proofs.types.Choice.cells.Reads as cells-reads
+use Rattle.choices.proofs.types.Choice.cells.Reads as cells-reads
 use Rattle.grouping.proofs.groups.put_gathered.Reads as put-gathered-reads
 
 -- src/groups.rt:50:13

@@ -17,7 +17,7 @@ use Rattle.grid.proofs.counts.parts_of.Reads as parts-of-reads
 use Rattle.grid.proofs.counts.transfer_count.Reads as transfer-count-reads
 use Rattle.grid.proofs.counts.walk_count.Reads as walk-count-reads
 use Rattle.rack.proofs.steps.sending.Reads as sending-reads
-use Rattle.cube.proofs.types.Choice.without.Reads as without-reads
+use Rattle.choices.proofs.types.Choice.without.Reads as without-reads
 use Rattle.rack.proofs.steps.+visit+walk.{statement}
 use Rattle.rack.proofs.steps.+visit+walk.Tie.{close}
 

@@ -3,14 +3,14 @@ use Prim.Native.Nat.{ℕ, _<_, _≤_, _^_}
 use native.Mathlib.Omega.{arith}
 use native.Mathlib.Nat.{le-trans}
 use lib.Pow.{pow-mono}
 use Rattle.cube.specs.Choices.{keeps}
 use Rattle.cube.proofs.Digits.{keeps-past}
 use borrow.Author.Needs.{needs}
-use Rattle.cube.proofs.types.digit.Statement.{statement}
-use Rattle.cube.proofs.types.digit.Tie as tie
-use Rattle.cube.proofs.types.digit.Reads as reads
-use Rattle.cube.proofs.types.digit.Lts as lts
-use Rattle.cube.proofs.types.bit.Reads as bit-reads
+use Rattle.choices.proofs.types.digit.Statement.{statement}
+use Rattle.choices.proofs.types.digit.Tie as tie
+use Rattle.choices.proofs.types.digit.Reads as reads
+use Rattle.choices.proofs.types.digit.Lts as lts
+use Rattle.choices.proofs.types.bit.Reads as bit-reads
 
 -- src/types.rt:24:9
 returns : tie.Need-returns

@@ -3,10 +3,10 @@ use Prim.Native.Nat.{_<_, _^_}
 use lib.Pow.{pow-lt, pow-pos}
 use native.Mathlib.Nat.{mod-eq-of-lt, one-mul}
 use borrow.Author.Needs.{needs}
-use Rattle.cube.proofs.types.bit.Statement.{statement}
-use Rattle.cube.proofs.types.bit.Tie as tie
-use Rattle.cube.proofs.types.bit.Reads as reads
-use Rattle.cube.proofs.types.bit.Lts as lts
+use Rattle.choices.proofs.types.bit.Statement.{statement}
+use Rattle.choices.proofs.types.bit.Tie as tie
+use Rattle.choices.proofs.types.bit.Reads as reads
+use Rattle.choices.proofs.types.bit.Lts as lts
 
 -- src/types.rt:17:5
 shl-result : tie.Need-shl-result

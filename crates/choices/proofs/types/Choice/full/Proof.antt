@@ -1,13 +1,13 @@
 use mathlib.Core.Path.{_≡_, refl, sym, _∙_}
 use Prim.Native.Nat.{ℕ, min}
 use native.Mathlib.Omega.{arith}
 use Rattle.cube.specs.Choices.{fullMask}
 use borrow.Author.Needs.{needs}
-use Rattle.cube.proofs.types.Choice.full.Statement.{statement}
-use Rattle.cube.proofs.types.Choice.full.Tie as tie
-use Rattle.cube.proofs.types.Choice.full.Reads as reads
-use Rattle.cube.proofs.types.Choice.full.Lts as lts
-use Rattle.cube.proofs.types.bit.Reads as bit-reads
+use Rattle.choices.proofs.types.Choice.full.Statement.{statement}
+use Rattle.choices.proofs.types.Choice.full.Tie as tie
+use Rattle.choices.proofs.types.Choice.full.Reads as reads
+use Rattle.choices.proofs.types.Choice.full.Lts as lts
+use Rattle.choices.proofs.types.bit.Reads as bit-reads
 
 -- src/types.rt:53:13
 returns : tie.Need-returns

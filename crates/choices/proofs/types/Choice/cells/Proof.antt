@@ -5,14 +5,14 @@ use native.Mathlib.Omega.{arith}
 use lib.ListN.{take, getD}
 use lib.Seq.{getD-take}
 use borrow.Author.Needs.{needs}
 use Rattle.cube.specs.Boxes.{product}
 use Rattle.cube.specs.Choices.{keptLength, cells}
 use Rattle.cube.proofs.Counting.{left, count-start, count-kept, count-summed, count-fits, count-end, length-small}
-use Rattle.cube.proofs.types.Choice.cells.Statement.{statement}
-use Rattle.cube.proofs.types.Choice.cells.Tie as tie
-use Rattle.cube.proofs.types.Choice.cells.Reads as reads
-use Rattle.cube.proofs.types.Choice.cells.Lts as lts
-use Rattle.cube.proofs.types.Choice.keeps.Reads as keeps-reads
+use Rattle.choices.proofs.types.Choice.cells.Statement.{statement}
+use Rattle.choices.proofs.types.Choice.cells.Tie as tie
+use Rattle.choices.proofs.types.Choice.cells.Reads as reads
+use Rattle.choices.proofs.types.Choice.cells.Lts as lts
+use Rattle.choices.proofs.types.Choice.keeps.Reads as keeps-reads
 
 abbrev Inv-loop : tie.InvT-loop
 Inv-loop self axes lengths count₀ d₀ count d = (d ≤ axes) × (axes ≤ 8) × (count * product (keptLength (take axes lengths) (self .mask)) (axes - d) d ≡ cells (take axes lengths) (self .mask))

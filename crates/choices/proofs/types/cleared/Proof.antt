@@ -2,13 +2,13 @@ use mathlib.Core.Path.{_≡_, refl, sym, _∙_}
 use Prim.Native.Nat.{ℕ, _<_, _≤_, _^_}
 use native.Mathlib.Omega.{arith}
 use lib.Pow.{pow-mono}
 use Rattle.cube.proofs.Digits.{digit-le, keeps-past, keeps-yes, keeps-not, without-kept, without-summed}
 use borrow.Author.Needs.{needs}
-use Rattle.cube.proofs.types.cleared.Statement.{statement}
-use Rattle.cube.proofs.types.cleared.Tie as tie
-use Rattle.cube.proofs.types.cleared.Reads as reads
-use Rattle.cube.proofs.types.cleared.Lts as lts
-use Rattle.cube.proofs.types.bit.Reads as bit-reads
+use Rattle.choices.proofs.types.cleared.Statement.{statement}
+use Rattle.choices.proofs.types.cleared.Tie as tie
+use Rattle.choices.proofs.types.cleared.Reads as reads
+use Rattle.choices.proofs.types.cleared.Lts as lts
+use Rattle.choices.proofs.types.bit.Reads as bit-reads
 
 -- src/types.rt:35:9
 returns : tie.Need-returns
