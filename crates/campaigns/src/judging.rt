@@ -9,7 +9,7 @@ use engine::refusals::points_of;
 use planner::types::Planned;
 use planning::planning::plan;
 use planning::planning::refused;
-use reader::scan;
+use scanner::scan;
 
 // The plan for the first n lengths.
 fn plan_first(lengths: &[u32], n: usize, p: u8) -> Planned
