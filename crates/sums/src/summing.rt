@@ -6,9 +6,9 @@ ghost use Rattle.cube.specs.Boxes.{sumZ};
 ghost use Rattle.cells.specs.Wrapped.{wrapped};
 ghost use Rattle.cells.specs.Rows.{every, combs, written, addedTo};
 ghost use Rattle.cells.specs.Strides.{boxSize, boxSums, Sums};
-use cells::rows::add_points;
-use cells::rows::clear;
-use cells::wrapping::wrapping_add;
+use rows::adding::add_points;
+use rows::adding::clear;
+use rows::wrapping::wrapping_add;
 
 // The sum of n points of the array, each step further than the one before.
 fn sum_points(array: &[i32], at: usize, n: usize, step: usize) -> i64

@@ -16,7 +16,7 @@ use Rattle.sums.proofs.summing.add_four.Statement.{statement}
 use Rattle.sums.proofs.summing.add_four.Tie as tie
 use Rattle.sums.proofs.summing.add_four.Reads as reads
 use Rattle.sums.proofs.summing.add_four.Lts as lts
-use Rattle.cells.proofs.wrapping.wrapping_add.Reads as wrapping-add-reads
+use Rattle.rows.proofs.wrapping.wrapping_add.Reads as wrapping-add-reads
 use Rattle.sums.proofs.summing.sum_points.Reads as sum-points-reads
 
 abbrev Inv-loop : tie.InvT-loop

@@ -12,8 +12,8 @@ use Rattle.sums.proofs.summing.sum_rows.Statement.{statement}
 use Rattle.sums.proofs.summing.sum_rows.Tie as tie
 use Rattle.sums.proofs.summing.sum_rows.Reads as reads
 use Rattle.sums.proofs.summing.sum_rows.Lts as lts
-use Rattle.cells.proofs.rows.add_points.Reads as add-points-reads
-use Rattle.cells.proofs.rows.clear.Reads as clear-reads
+use Rattle.rows.proofs.adding.add_points.Reads as add-points-reads
+use Rattle.rows.proofs.adding.clear.Reads as clear-reads
 use Rattle.sums.proofs.summing.add_four.Reads as add-four-reads
 
 abbrev Inv-loop : tie.InvT-loop
