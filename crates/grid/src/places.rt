@@ -13,7 +13,7 @@ ghost use Rattle.boards.specs.Finding.{planGrid, summedIn, leads, leadLabel, La
 use crate::counts::parts_of;
 use choices::types::Choice;
 use planner::types::Plan;
-use prices::pricing::region_of;
+use regions::region_of;
 
 // Where portion l of the axis at place d starts; the last one ends where the next would start.
 pub fn start_of(plan: Plan, d: usize, l: u64) -> u64

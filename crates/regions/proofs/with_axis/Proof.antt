@@ -1,27 +1,27 @@
 use mathlib.Core.Path.{refl}
 use borrow.Author.Needs.{needs}
-use Rattle.prices.proofs.pricing.with_axis.Statement.{statement}
-use Rattle.prices.proofs.pricing.with_axis.Tie as tie
-use Rattle.prices.proofs.pricing.with_axis.Reads as reads
-use Rattle.prices.proofs.pricing.with_axis.Lts as lts
+use Rattle.regions.proofs.with_axis.Statement.{statement}
+use Rattle.regions.proofs.with_axis.Tie as tie
+use Rattle.regions.proofs.with_axis.Reads as reads
+use Rattle.regions.proofs.with_axis.Lts as lts
 
--- src/pricing.rt:85:16
+-- src/lib.rt:36:16
 mul-result : tie.Need-mul-result
 mul-result c = search needs
 
--- src/pricing.rt:85:16
+-- src/lib.rt:36:16
 add-result : tie.Need-add-result
 add-result c = search needs
 
--- src/pricing.rt:85:9
+-- src/lib.rt:36:9
 returns : tie.Need-returns
 returns c = rw (c .if1 .taken) refl
 
--- src/pricing.rt:87:5
+-- src/lib.rt:38:5
 mul-result-2 : tie.Need-mul-result-2
 mul-result-2 c = search needs
 
--- src/pricing.rt:80:1
+-- src/lib.rt:31:1
 returns-2 : tie.Need-returns-2
 returns-2 c = rw (c .if1 .left) refl
 

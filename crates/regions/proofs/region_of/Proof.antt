@@ -2,26 +2,26 @@ use mathlib.Core.Path.{_∙_}
 use Rattle.planner.proofs.Accepting.{passed-accepted}
 use Rattle.planner.proofs.PricingLaws.{table-slot, few-axes, order-fits, priceable, starts-same}
 use borrow.Author.Needs.{needs}
-use Rattle.prices.proofs.pricing.region_of.Statement.{statement}
-use Rattle.prices.proofs.pricing.region_of.Tie as tie
+use Rattle.regions.proofs.region_of.Statement.{statement}
+use Rattle.regions.proofs.region_of.Tie as tie
 
--- src/pricing.rt:143:13
+-- src/lib.rt:143:13
 cast-n : tie.Need-cast-n
 cast-n c = search needs
 
--- src/pricing.rt:147:9
+-- src/lib.rt:78:9
 in-order-requires : tie.Need-in-order-requires
 in-order-requires c κs = let s = c .before .before .before .before in let gd = s .good .0 .1 .1 .1 .1 in let ok = passed-accepted (s .args .plan) (gd .0 .1 .0 .1) (gd .1 .0 .1 .0 .1) (gd .1 .1 .0 .1 .0 .1) (s .pre .0) in (few-axes ok, order-fits (s .args .plan) ok)
 
--- src/pricing.rt:148:9
+-- src/lib.rt:79:9
 exponents-along-requires : tie.Need-exponents-along-requires
 exponents-along-requires c κs = let s = c .before .before .before .before .before in let gd = s .good .0 .1 .1 .1 .1 in let ok = passed-accepted (s .args .plan) (gd .0 .1 .0 .1) (gd .1 .0 .1 .0 .1) (gd .1 .1 .0 .1 .0 .1) (s .pre .0) in (few-axes ok, order-fits (s .args .plan) ok)
 
--- src/pricing.rt:149:5
+-- src/lib.rt:80:5
 regions-to-requires : tie.Need-regions-to-requires
 regions-to-requires c κs = let s = c .before .before .before .before .before .before in let gd = s .good .0 .1 .1 .1 .1 in let ok = passed-accepted (s .args .plan) (gd .0 .1 .0 .1) (gd .1 .0 .1 .0 .1) (gd .1 .1 .0 .1 .0 .1) (s .pre .0) in (priceable (s .args .plan) ok (c .before .in-order .result) (c .exponents-along .result) (table-slot (s .args .plan .axes) _ (c .before .in-order .result) (few-axes ok) (c .before .in-order .ensures)) (c .exponents-along .ensures), s .pre .1)
 
--- src/pricing.rt:139:1
+-- src/lib.rt:139:1
 returns : tie.Need-returns
 returns c =
     let s = c .before .before .before .before .before .before .before in

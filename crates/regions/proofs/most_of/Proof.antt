@@ -5,8 +5,8 @@ use native.Mathlib.Omega.{arith}
 use lib.ListN.{length}
 use Rattle.cube.specs.Portions.{ceiling}
 use Rattle.planner.proofs.PricingLaws.{shifted, power-small}
-use Rattle.prices.proofs.pricing.most_of.Statement.{statement}
-use Rattle.prices.proofs.pricing.most_of.Tie as tie
+use Rattle.regions.proofs.most_of.Statement.{statement}
+use Rattle.regions.proofs.most_of.Tie as tie
 
 shl-parts : tie.Need-shl-parts
 shl-parts c = omega arith

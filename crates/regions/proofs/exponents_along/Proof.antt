@@ -5,8 +5,8 @@ use mathlib.Core.Path.{_≡_, refl, _∙_}
 use native.Mathlib.Omega.{arith}
 use lib.ListN.{length, getD, length-set}
 use Rattle.planner.proofs.PricingLaws.{filled-next}
-use Rattle.prices.proofs.pricing.exponents_along.Statement.{statement}
-use Rattle.prices.proofs.pricing.exponents_along.Tie as tie
+use Rattle.regions.proofs.exponents_along.Statement.{statement}
+use Rattle.regions.proofs.exponents_along.Tie as tie
 
 no-slot : {A : Type 0} {j : ℕ} → j < 0 → A
 no-slot h = absurd (omega arith)

@@ -1,4 +1,4 @@
--- `prices::pricing::regions_to` meets its contract. The invariant: the regions of the first d axes alone.
+-- `regions::regions_to` meets its contract. The invariant: the regions of the first d axes alone.
 use Prim.Native.Nat.{ℕ, _+_, _-_, _*_, _≤_, _<_}
 use mathlib.Core.Path.{_≡_, sym, _∙_, refl, ap, ap₂}
 use native.Mathlib.Omega.{arith}
@@ -8,13 +8,13 @@ use Rattle.cube.specs.Boxes.{pick, product}
 use Rattle.cube.specs.Tree.{regionStart}
 use Rattle.planner.specs.Pricing.{mostOf}
 use Rattle.planner.proofs.PricingLaws.{share-none}
-use Rattle.prices.proofs.Regions.{start-last, all-none, all-turn, starts-small, all-small, Started, started, start-next, start-small, start-end, sum-fits, all-fits, most-same}
-use Rattle.prices.proofs.pricing.regions_to.Statement.{statement}
-use Rattle.prices.proofs.pricing.regions_to.Tie as tie
-use Rattle.prices.proofs.pricing.regions_to.Reads as reads
-use Rattle.prices.proofs.pricing.regions_to.Lts as lts
-use Rattle.prices.proofs.pricing.most_of.Reads as most-of-reads
-use Rattle.prices.proofs.pricing.with_axis.Reads as with-axis-reads
+use Rattle.regions.proofs.Regions.{start-last, all-none, all-turn, starts-small, all-small, Started, started, start-next, start-small, start-end, sum-fits, all-fits, most-same}
+use Rattle.regions.proofs.regions_to.Statement.{statement}
+use Rattle.regions.proofs.regions_to.Tie as tie
+use Rattle.regions.proofs.regions_to.Reads as reads
+use Rattle.regions.proofs.regions_to.Lts as lts
+use Rattle.regions.proofs.most_of.Reads as most-of-reads
+use Rattle.regions.proofs.with_axis.Reads as with-axis-reads
 
 abbrev Inv-loop : tie.InvT-loop
 Inv-loop n i lengths exponents start₀ share₀ all₀ d₀ start share all d =
@@ -23,33 +23,33 @@ Inv-loop n i lengths exponents start₀ share₀ all₀ d₀ start share all d =
 abbrev μ-loop : tie.MeasureT-loop
 μ-loop n i lengths exponents start₀ share₀ all₀ d₀ start share all d = n - d
 
--- src/pricing.rt:99:5
+-- src/lib.rt:50:5
 loop-holds : tie.Need-loop-holds Inv-loop μ-loop
 loop-holds c =
     let s = c in
     (omega arith, s .pre .0 .few, all-none (mostOf (s .args .t1) (s .args .t2)), sym (share-none 0 (mostOf (s .args .t1) (s .args .t2))), started (s .args .t1) (s .args .t2) (s .args .n) (s .pre .0) (s .args .i))
 
--- src/pricing.rt:100:28
+-- src/lib.rt:51:28
 mul-most-of : tie.Need-mul-most-of Inv-loop μ-loop
 mul-most-of c =
     omega (arith, c .before .loop .inv .1, c .loop-test .taken)
 
--- src/pricing.rt:100:28
+-- src/lib.rt:51:28
 array-read-most-of : tie.Need-array-read-most-of Inv-loop μ-loop
 array-read-most-of c =
     omega (arith, c .before .loop .inv .1, c .loop-test .taken)
 
--- src/pricing.rt:100:40
+-- src/lib.rt:51:40
 array-read-most-of-2 : tie.Need-array-read-most-of-2 Inv-loop μ-loop
 array-read-most-of-2 c =
     omega (arith, c .before .loop .inv .1, c .loop-test .taken)
 
--- src/pricing.rt:100:13
+-- src/lib.rt:51:13
 most-of-requires : tie.Need-most-of-requires Inv-loop μ-loop
 most-of-requires c κs =
     c .before .before .pre .0 .cut (c .before .loop .d) (c .loop-test .taken)
 
--- src/pricing.rt:101:9
+-- src/lib.rt:52:9
 with-axis-requires : tie.Need-with-axis-requires Inv-loop μ-loop
 with-axis-requires c κs =
     let lp = c .before .before in
@@ -58,7 +58,7 @@ with-axis-requires c κs =
     let a : lp .loop .all ≤ 134217728 = (let b = all-small (s .args .t1) (s .args .t2) (s .args .n) (s .pre .0) (lp .loop .d) (c .before .loop-test .taken) in let e = v .2 in omega arith) in
     sum-fits (lp .loop .start) (c .most-of .result) (lp .loop .all) (start-small (s .args .t1) (s .args .t2) (s .args .n) (s .pre .0) (s .args .i) (lp .loop .d) (lp .loop .start) (s .pre .1) (v .0) (v .4)) (c .most-of .ensures .1) a
 
--- src/pricing.rt:102:9
+-- src/lib.rt:53:9
 with-axis-requires-2 : tie.Need-with-axis-requires-2 Inv-loop μ-loop
 with-axis-requires-2 c κs =
     let k = c .before in
@@ -69,7 +69,7 @@ with-axis-requires-2 c κs =
     let h : lp .loop .share ≤ 134217728 = (let b = starts-small (s .args .t1) (s .args .t2) (s .args .n) (s .pre .0) (lp .loop .d) (lp .loop .d) (v .0) in let e = v .3 in let f = v .1 in let g = v .0 in omega arith) in
     sum-fits (lp .loop .share) (k .most-of .result) (lp .loop .all) h (k .most-of .ensures .1) a
 
--- src/pricing.rt:103:15
+-- src/lib.rt:54:15
 mul-all : tie.Need-mul-all Inv-loop μ-loop
 mul-all c =
     let k = c .before .before in
@@ -80,19 +80,19 @@ mul-all c =
     let f = all-fits (k .most-of .result) (lp .loop .all) (k .most-of .ensures .1) a in
     record { fits = f }
 
--- src/pricing.rt:104:9
+-- src/lib.rt:55:9
 add-d : tie.Need-add-d Inv-loop μ-loop
 add-d c =
     let k = c .before .before in
     let v = k .before .before .loop .inv in
     record { fits = omega (arith, v .1, k .before .loop-test .taken) }
 
--- src/pricing.rt:99:5
+-- src/lib.rt:50:5
 loop-less : tie.Need-loop-less Inv-loop μ-loop
 loop-less c =
     omega (arith, c .before .before .before .loop-test .taken)
 
--- src/pricing.rt:99:5
+-- src/lib.rt:50:5
 loop-again : tie.Need-loop-again Inv-loop μ-loop
 loop-again c =
     let k = c .before .before in
@@ -109,7 +109,7 @@ loop-again c =
       rw (c .before .with-axis .ensures, e, v .2) (start-next (s .args .t1) (s .args .t2) (s .args .n) (s .pre .0) (s .args .i) (lp .loop .d) (lp .loop .start) (v .4)),
     )
 
--- src/pricing.rt:91:1
+-- src/lib.rt:42:1
 returns : tie.Need-returns Inv-loop μ-loop
 returns c =
     let lp = c .before in
