@@ -1,24 +1,31 @@
-// The entry that takes one step.
+// One step on a work area.
 ghost use mathlib.Core.Path.{_≡_};
+ghost use lib.ListN.{length};
 ghost use Rattle.boards.specs.Answers.{told};
-ghost use Rattle.memory.specs.Entries.{outcome, stepping};
+ghost use Rattle.grid.specs.Tallied.{Tallied};
+ghost use Rattle.memory.specs.Entries.{outcome, stepRefusal, stepping};
 use crate::refusals::step_refusal;
 use boards::types::Step;
+use grid::counts::Tallies;
+use grid::counts::tallies_of;
 use moves::expansions::expand_all;
 use moves::transfers::move_cells;
 use planner::types::Plan;
-use rack::steps::step_at;
+use rack::steps::step_by;
 
-// Takes the step at the position on a work area, and moves the position; done at the end, or the refusal, and then nothing is changed.
-pub fn step(plan: Plan, array: &[i32], work: &mut [i64], position: &mut u64) -> Step
+// Takes the step at the position on a work area, and moves the position; done at the end. For a call that no check refuses, so that a run is judged once.
+pub fn take(
+    plan: Plan,
+    tallies: Tallies,
+    array: &[i32],
+    work: &mut [i64],
+    position: &mut u64,
+) -> Step
+    requires { ⌜ (stepRefusal plan (length (now array)) (length (now work)) (now position) ≡ 0) × (Tallied plan tallies) ⌝ }
     ensures { λ r. ⌜ outcome (told r) (now (work .exit)) (now (position .exit)) ≡ stepping plan (now (array .entry)) (now (work .entry)) (now (position .entry)) ⌝ }
 {
     let at = *position;
-    let refusal = step_refusal(plan, array.len(), work.len(), at);
-    if refusal != 0 {
-        return Step::Refused(refusal);
-    }
-    match step_at(plan, at) {
+    match step_by(plan, tallies, at) {
         Step::Expand(choice) => {
             expand_all(plan, choice, array, work);
             *position = at + 1;
@@ -40,4 +47,16 @@ pub fn step(plan: Plan, array: &[i32], work: &mut [i64], position: &mut u64) -> 
             return Step::Refused(n);
         }
     }
+}
+
+// The public entry: the same for every call, or the refusal, and then nothing is changed.
+pub fn step(plan: Plan, array: &[i32], work: &mut [i64], position: &mut u64) -> Step
+    ensures { λ r. ⌜ outcome (told r) (now (work .exit)) (now (position .exit)) ≡ stepping plan (now (array .entry)) (now (work .entry)) (now (position .entry)) ⌝ }
+{
+    let refusal = step_refusal(plan, array.len(), work.len(), *position);
+    if refusal != 0 {
+        return Step::Refused(refusal);
+    }
+    let tallies = tallies_of(plan);
+    take(plan, tallies, array, work, position)
 }

@@ -1,2 +1,4 @@
 pub mod Leads
+pub mod Portioned
+pub mod Regioned
 pub mod Tallying

@@ -1,2 +1,3 @@
 pub mod counts;
 pub mod places;
+pub mod portions;

@@ -11,40 +11,19 @@ ghost use Rattle.planner.specs.Refusals.{planRefusal};
 ghost use Rattle.boards.specs.Grids.{boards, boardWith, label, lead, box, cells, share, index};
 ghost use Rattle.boards.specs.Finding.{planGrid, summedIn, leads, leadLabel, Labels};
 use crate::counts::parts_of;
+use crate::portions::kept_portion;
+use crate::portions::portion_of;
 use choices::types::Choice;
 use planner::types::Plan;
 use regions::region_of;
-
-// Where portion l of the axis at place d starts; the last one ends where the next would start.
-pub fn start_of(plan: Plan, d: usize, l: u64) -> u64
-    requires { ⌜ (planRefusal plan ≡ 0) × (d < plan .axes) × (l ≤ planGrid plan .parts d) ⌝ }
-    ensures { λ r. ⌜ (r ≡ planGrid plan .start d l) × (r ≤ lengthLimit) ⌝ }
-{
-    let axis = plan.order[d] as usize;
-    let length = plan.lengths[axis] as u64;
-    let parts = parts_of(plan, d);
-    l * length / parts
-}
 
 // How many positions portion l of the axis at place d has.
 pub fn extent_of(plan: Plan, d: usize, l: u64) -> u64
     requires { ⌜ (planRefusal plan ≡ 0) × (d < plan .axes) × (l < planGrid plan .parts d) ⌝ }
     ensures { λ r. ⌜ (r ≡ planGrid plan .start d (suc l) - planGrid plan .start d l) × (r ≤ lengthLimit) ⌝ }
 {
-    let end = start_of(plan, d, l + 1);
-    let start = start_of(plan, d, l);
-    end - start
-}
-
-// The same, and 1 where a choice sums the axis out.
-pub fn kept_extent(plan: Plan, choice: Choice, d: usize, l: u64) -> u64
-    requires { ⌜ (planRefusal plan ≡ 0) × (d < plan .axes) × (l < planGrid plan .parts d) ⌝ }
-    ensures { λ r. ⌜ (r ≡ kept (summedIn plan (choice .mask)) (λ e. planGrid plan .start e (suc l) - planGrid plan .start e l) d) × (r ≤ lengthLimit) ⌝ }
-{
-    if choice.keeps(plan.order[d]) {
-        return extent_of(plan, d, l);
-    }
-    1
+    let axis = plan.order[d] as usize;
+    portion_of(plan.lengths[axis], plan.exponents[axis], l)
 }
 
 // The labels, by place, of the lead that has a rank among the leads of a choice.
@@ -57,8 +36,9 @@ pub fn lead_labels(plan: Plan, choice: Choice, rank: u64) -> [u64; 8]
     let mut d = plan.axes as usize;
     while 0 < d {
         d -= 1;
-        if choice.keeps(plan.order[d]) {
-            let parts = parts_of(plan, d);
+        let axis = plan.order[d];
+        if choice.keeps(axis) {
+            let parts = 1u64 << plan.exponents[axis as usize];
             labels[d] = rest % parts;
             rest = rest / parts;
         }
@@ -109,7 +89,8 @@ pub fn board_of(plan: Plan, labels: [u64; 8]) -> u64
     let mut board: u64 = 0;
     let mut d: usize = 0;
     while d < plan.axes as usize {
-        let parts = parts_of(plan, d);
+        let axis = plan.order[d] as usize;
+        let parts = 1u64 << plan.exponents[axis];
         board = board * parts + labels[d];
         d += 1;
     }
@@ -153,7 +134,10 @@ pub fn cells_between(plan: Plan, choice: Choice, labels: [u64; 8], first: usize,
     let mut count: u64 = 1;
     let mut d = first;
     while d < end {
-        let extent = kept_extent(plan, choice, d, labels[d]);
+        let axis = plan.order[d];
+        let kept = choice.keeps(axis);
+        let i = axis as usize;
+        let extent = kept_portion(kept, plan.lengths[i], plan.exponents[i], labels[d]);
         count = count * extent;
         d += 1;
     }

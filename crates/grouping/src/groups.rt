@@ -10,9 +10,10 @@ ghost use Rattle.planner.specs.Refusals.{planRefusal};
 ghost use Rattle.grouping.specs.Grouped.{Ready, groupsOf, groupsBefore, groupText};
 use boards::types::Step;
 use choices::types::Choice;
-use engine::stepping::step;
+use engine::stepping::take;
 use gathers::copying::gather;
 use grid::counts::steps_of;
+use grid::counts::tallies_of;
 use lines::printing::put_group;
 use planner::types::Plan;
 
@@ -68,8 +69,9 @@ pub fn next_group(
         → groupsBefore plan (now (points .entry)) (now (position .exit)) ≡ groupsBefore plan (now (points .entry)) (now (position .entry)) + 1) ⌝ }
 {
     let total = steps_of(plan);
+    let tallies = tallies_of(plan);
     while *position < total {
-        let answer = step(plan, points, work, position);
+        let answer = take(plan, tallies, points, work, position);
         let Step::Finish(choice) = answer else {
             continue;
         };

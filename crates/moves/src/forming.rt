@@ -54,7 +54,7 @@ pub fn form_points(plan: Plan, root: Choice, board: u64, j: usize, array: &[i32]
     let labels = labels_of(plan, board);
     let mut extents = extents_of(plan, root, labels);
     let mut strides = strides_of(plan, root);
-    let first = first_cell(plan, root, labels);
+    let first = first_cell(plan, root, strides, labels);
     let dst = region_at(plan, board, j);
     let count = extents[j];
     let step = strides[j];

@@ -85,15 +85,23 @@ pub fn visit(plan: Plan, choice: Choice, d: usize, n: u64, at: u64, tallies: Tal
     Step::Done
 }
 
-// The step at a position of the whole list, done at its end and past it.
-pub fn step_at(plan: Plan, at: u64) -> Step
-    requires { ⌜ planRefusal plan ≡ 0 ⌝ }
+// The step at a position of the whole list, done at its end and past it, by tallies that can serve many positions.
+pub fn step_by(plan: Plan, tallies: Tallies, at: u64) -> Step
+    requires { ⌜ (planRefusal plan ≡ 0) × (Tallied plan tallies) ⌝ }
     ensures { λ r. ⌜ told r ≡ toldAt (planGrid plan) (steps (planGrid plan)) at ⌝ }
 {
     let root = Choice::full(plan.axes);
     if at == 0 {
         return Step::Expand(root);
     }
-    let tallies = tallies_of(plan);
     walk(plan, root, 0, 1, at - 1, tallies)
+}
+
+// The same for one position.
+pub fn step_at(plan: Plan, at: u64) -> Step
+    requires { ⌜ planRefusal plan ≡ 0 ⌝ }
+    ensures { λ r. ⌜ told r ≡ toldAt (planGrid plan) (steps (planGrid plan)) at ⌝ }
+{
+    let tallies = tallies_of(plan);
+    step_by(plan, tallies, at)
 }

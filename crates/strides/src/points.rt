@@ -9,8 +9,8 @@ ghost use Rattle.boards.specs.Grids.{boardWith, box};
 ghost use Rattle.boards.specs.Finding.{planGrid, summedIn, Labels};
 ghost use Rattle.memory.specs.Copies.{keptAlong, cellStride};
 use choices::types::Choice;
-use grid::places::kept_extent;
-use grid::places::start_of;
+use grid::portions::kept_portion;
+use grid::portions::portion_start;
 use planner::types::Plan;
 
 // The length of an axis by its number, and 1 where the choice sums it out.
@@ -62,24 +62,27 @@ pub fn extents_of(plan: Plan, choice: Choice, labels: [u64; 8]) -> [usize; 8]
     let mut extents = [0usize; 8];
     let mut d: usize = 0;
     while d < plan.axes as usize {
-        let extent = kept_extent(plan, choice, d, labels[d]);
+        let axis = plan.order[d];
+        let kept = choice.keeps(axis);
+        let i = axis as usize;
+        let extent = kept_portion(kept, plan.lengths[i], plan.exponents[i], labels[d]);
         extents[d] = extent as usize;
         d += 1;
     }
     extents
 }
 
-// Where the first cell of the board with these labels stands.
-pub fn first_cell(plan: Plan, choice: Choice, labels: [u64; 8]) -> u64
-    requires { ⌜ (planRefusal plan ≡ 0) × (Labels plan labels) ⌝ }
+// Where the first cell of the board with these labels stands. The strides are those of the choice, which is lent for the contract alone.
+pub fn first_cell(plan: Plan, choice: Choice, strides: [usize; 8], labels: [u64; 8]) -> u64
+    requires { ⌜ (planRefusal plan ≡ 0) × (Labels plan labels) × ((d : ℕ) → d < plan .axes → getD strides d 0 ≡ cellStride (planGrid plan) (summedIn plan (choice .mask)) d) ⌝ }
     ensures { λ r. ⌜ r ≡ sumN (plan .axes) (λ d. planGrid plan .start d (getD labels d 0) * cellStride (planGrid plan) (summedIn plan (choice .mask)) d) ⌝ }
 {
     let mut at: u64 = 0;
     let mut d: usize = 0;
     while d < plan.axes as usize {
-        let start = start_of(plan, d, labels[d]);
-        let stride = stride_of(plan, choice, d);
-        at += start * stride;
+        let i = plan.order[d] as usize;
+        let start = portion_start(plan.lengths[i], plan.exponents[i], labels[d]);
+        at += start * (strides[d] as u64);
         d += 1;
     }
     at

@@ -7,13 +7,15 @@ use native.Mathlib.Nat.{mul-le-mul}
 use lib.ListN.{getD}
 use Rattle.cube.specs.Boxes.{place}
 use Rattle.planner.specs.Accepted.{Accepted}
-use Rattle.planner.proofs.PricingLaws.{few-axes}
+use Rattle.planner.proofs.PricingLaws.{few-axes, order-fits, shifted}
 use Rattle.boards.specs.Grids.{boardWith}
 use Rattle.boards.specs.Finding.{planGrid, Labels}
-use Rattle.boards.proofs.Tallied.{axes-same}
+use Rattle.boards.proofs.Tallied.{axes-same, parts-slot, parts-small, exponent-small}
 use Rattle.boards.proofs.Planned.{place-last, prefix-small}
 use Rattle.grid.proofs.places.board_of.Statement.{statement}
 use Rattle.grid.proofs.places.board_of.Tie as tie
+use Rattle.grid.proofs.places.board_of.Reads as reads
+use Rattle.grid.proofs.places.board_of.Lts as lts
 
 abbrev Inv-loop : tie.InvT-loop
 Inv-loop plan labels board₀ d₀ board d = (Accepted plan) × (Labels plan labels) × (d ≤ plan .axes) × (board ≡ place (planGrid plan .parts) (λ i. getD labels i 0) d 0)
@@ -21,51 +23,67 @@ Inv-loop plan labels board₀ d₀ board d = (Accepted plan) × (Labels plan lab
 abbrev μ-loop : tie.MeasureT-loop
 μ-loop plan labels board₀ d₀ board d = plan .axes - d
 
--- src/places.rt:69:5
+-- src/places.rt:91:5
 loop-holds : tie.Need-loop-holds Inv-loop μ-loop
 unfolding place
-loop-holds c = let gd = c .good .0 .1 .1 .1 .1 in let ok = passed-accepted (c .args .plan) (gd .0 .1 .0 .1) (gd .1 .0 .1 .0 .1) (gd .1 .1 .0 .1 .0 .1) (c .pre .0) in (ok, c .pre .1, omega arith, refl)
+loop-holds c = let gd = c .good .0 .1 .1 .1 .1 in let ok = passed-accepted (c .args .t1) (gd .0 .1 .0 .1) (gd .1 .0 .1 .0 .1) (gd .1 .1 .0 .1 .0 .1) (c .pre .0) in (ok, c .pre .1, omega arith, refl)
 
--- src/places.rt:69:15
-cast-if1 : tie.Need-cast-if1 Inv-loop μ-loop
-cast-if1 c = search needs
+-- src/places.rt:91:15
+cast-loop : tie.Need-cast-loop Inv-loop μ-loop
+cast-loop c = search needs
 
--- src/places.rt:70:13
-parts-of-requires : tie.Need-parts-of-requires Inv-loop μ-loop
-parts-of-requires c κs = (c .before .before .before .pre .0, c .if1 .taken)
+-- src/places.rt:92:20
+element-copy-out-axis : tie.Need-element-copy-out-axis Inv-loop μ-loop
+element-copy-out-axis c = let z = c .before in let f = few-axes (z .loop .inv .0) in omega (arith, c .loop-test .taken)
 
--- src/places.rt:71:17
+-- src/places.rt:92:20
+cast-axis : tie.Need-cast-axis Inv-loop μ-loop
+cast-axis c = search needs
+
+-- src/places.rt:93:29
+element-copy-out-parts : tie.Need-element-copy-out-parts Inv-loop μ-loop
+element-copy-out-parts c = let z = c .before .before in let s = z .before in let i = z .loop .inv in let h = c .before .loop-test .taken in order-fits (s .args .t1) (i .0) (z .loop .d) h
+
+-- src/places.rt:93:29
+cast-parts : tie.Need-cast-parts Inv-loop μ-loop
+cast-parts c = search needs
+
+-- src/places.rt:93:21
+shl-parts : tie.Need-shl-parts Inv-loop μ-loop
+shl-parts c = let z = c .before .before .before in let s = z .before in let i = z .loop .inv in let h = c .before .before .loop-test .taken in let e = exponent-small (s .args .t1) (i .0) (z .loop .d) h in omega arith
+
+-- src/places.rt:94:17
 mul-board : tie.Need-mul-board Inv-loop μ-loop
-mul-board c = let z = c .before .before .before in let i = z .loop .inv in let a = prefix-small (z .before .args .plan) (i .0) (z .before .args .t2) (i .1) (z .loop .d) (i .2) in let p = c .parts-of .ensures in let b : z .loop .board ≤ 1024 = omega (arith, i .3) in let m = mul-le-mul b (p .2) in omega arith
+mul-board c = let z = c .before .before .before in let s = z .before in let i = z .loop .inv in let h = c .before .before .loop-test .taken in let e = shifted _ (exponent-small (s .args .t1) (i .0) (z .loop .d) h) ∙ parts-slot (s .args .t1) (i .0) (z .loop .d) h in let a = prefix-small (s .args .t1) (i .0) (s .args .t2) (i .1) (z .loop .d) (i .2) in let p = parts-small (s .args .t1) (i .0) (z .loop .d) h in let b : z .loop .board ≤ 1024 = omega (arith, i .3) in let m = mul-le-mul b (p .1) in rw e (omega arith)
 
--- src/places.rt:71:33
+-- src/places.rt:94:33
 mul-board-2 : tie.Need-mul-board-2 Inv-loop μ-loop
-mul-board-2 c = let z = c .before .before .before in let f = few-axes (z .loop .inv .0) in omega (arith, c .before .if1 .taken)
+mul-board-2 c = let z = c .before .before .before in let s = z .before in let i = z .loop .inv in let h = c .before .before .loop-test .taken in let f = few-axes (i .0) in omega arith
 
--- src/places.rt:71:33
+-- src/places.rt:94:33
 array-read-board : tie.Need-array-read-board Inv-loop μ-loop
-array-read-board c = let z = c .before .before .before in let f = few-axes (z .loop .inv .0) in omega (arith, c .before .if1 .taken)
+array-read-board c = let z = c .before .before .before in let s = z .before in let i = z .loop .inv in let h = c .before .before .loop-test .taken in let f = few-axes (i .0) in omega arith
 
--- src/places.rt:71:17
+-- src/places.rt:94:17
 add-board : tie.Need-add-board Inv-loop μ-loop
-add-board c = let z = c .before .before .before in let i = z .loop .inv in let a = prefix-small (z .before .args .plan) (i .0) (z .before .args .t2) (i .1) (z .loop .d + 1) (omega (arith, c .before .if1 .taken)) in rw (c .parts-of .ensures .0, i .3, ← place-last (planGrid (z .before .args .plan) .parts) (λ i. getD (z .before .args .t2) i 0) (z .loop .d)) (omega arith)
+add-board c = let z = c .before .before .before in let s = z .before in let i = z .loop .inv in let h = c .before .before .loop-test .taken in let e = shifted _ (exponent-small (s .args .t1) (i .0) (z .loop .d) h) ∙ parts-slot (s .args .t1) (i .0) (z .loop .d) h in let a = prefix-small (s .args .t1) (i .0) (s .args .t2) (i .1) (z .loop .d + 1) (omega (arith, h)) in rw (e, i .3, ← place-last (planGrid (s .args .t1) .parts) (λ i. getD (s .args .t2) i 0) (z .loop .d)) (omega arith)
 
--- src/places.rt:72:9
+-- src/places.rt:95:9
 add-d : tie.Need-add-d Inv-loop μ-loop
-add-d c = let z = c .before .before .before in let f = few-axes (z .loop .inv .0) in omega (arith, c .before .if1 .taken)
+add-d c = let z = c .before .before .before in let s = z .before in let i = z .loop .inv in let h = c .before .before .loop-test .taken in let f = few-axes (i .0) in omega arith
 
--- src/places.rt:69:5
+-- src/places.rt:91:5
 loop-less : tie.Need-loop-less Inv-loop μ-loop
-loop-less c = let z = c .before .before .before in omega (arith, c .before .if1 .taken)
+loop-less c = let h = c .before .before .loop-test .taken in omega arith
 
--- src/places.rt:69:5
+-- src/places.rt:91:5
 loop-again : tie.Need-loop-again Inv-loop μ-loop
-loop-again c = let z = c .before .before .before in let i = z .loop .inv in (i .0, i .1, omega (arith, c .before .if1 .taken), rw (c .parts-of .ensures .0, i .3) (sym (place-last (planGrid (z .before .args .plan) .parts) (λ i. getD (z .before .args .t2) i 0) (z .loop .d))))
+loop-again c = let z = c .before .before .before in let s = z .before in let i = z .loop .inv in let h = c .before .before .loop-test .taken in let e = shifted _ (exponent-small (s .args .t1) (i .0) (z .loop .d) h) ∙ parts-slot (s .args .t1) (i .0) (z .loop .d) h in (i .0, i .1, omega (arith, h), rw (e, i .3) (sym (place-last (planGrid (s .args .t1) .parts) (λ i. getD (s .args .t2) i 0) (z .loop .d))))
 
--- src/places.rt:63:1
+-- src/places.rt:85:1
 returns : tie.Need-returns Inv-loop μ-loop
 unfolding boardWith
-returns c = let z = c .before .before in let i = z .loop .inv in let e = axes-same (z .before .args .plan) (i .0) in let d : z .loop .d ≡ planGrid (z .before .args .plan) .axes = omega (arith, i .2, c .if1 .left) in (i .3 ∙ ap (λ n. place (planGrid (z .before .args .plan) .parts) (λ i. getD (z .before .args .t2) i 0) n 0) d, rw (i .3) (prefix-small (z .before .args .plan) (i .0) (z .before .args .t2) (i .1) (z .loop .d) (i .2)))
+returns c = let z = c .before in let s = z .before in let i = z .loop .inv in let e = axes-same (s .args .t1) (i .0) in let d : z .loop .d ≡ planGrid (s .args .t1) .axes = omega (arith, i .2, c .loop-test .left) in (i .3 ∙ ap (λ n. place (planGrid (s .args .t1) .parts) (λ i. getD (s .args .t2) i 0) n 0) d, rw (i .3) (prefix-small (s .args .t1) (i .0) (s .args .t2) (i .1) (z .loop .d) (i .2)))
 
 pub board-of-spec : {M : Type 1} → statement M
 board-of-spec =
@@ -74,8 +92,12 @@ board-of-spec =
     Inv-loop
     μ-loop
     loop-holds
-    cast-if1
-    parts-of-requires
+    cast-loop
+    element-copy-out-axis
+    cast-axis
+    element-copy-out-parts
+    cast-parts
+    shl-parts
     mul-board
     mul-board-2
     array-read-board

@@ -1,34 +1,54 @@
 use native.Mathlib.Omega.{arith}
+use Prim.Native.Nat.{suc}
+use mathlib.Core.Path.{refl}
 use Rattle.planner.proofs.Accepting.{passed-accepted}
-use Prim.Native.Nat.{ℕ, suc, _+_, _-_, _≤_}
-use mathlib.Core.Path.{_≡_, refl}
-use native.Mathlib.Numerals.{add-one}
-use Rattle.boards.specs.Finding.{planGrid}
-use Rattle.boards.proofs.Tallied.{lawful, axes-same, parts-small}
+use Rattle.planner.proofs.PricingLaws.{few-axes, order-fits}
+use Rattle.boards.proofs.Tallied.{parts-small, exponent-small}
+use Rattle.boards.proofs.Planned.{start-small}
+use Rattle.grid.proofs.Portioned.{start-here}
 use borrow.Author.Needs.{needs}
 use Rattle.grid.proofs.places.extent_of.Statement.{statement}
 use Rattle.grid.proofs.places.extent_of.Tie as tie
+use Rattle.grid.proofs.places.extent_of.Reads as reads
+use Rattle.grid.proofs.places.extent_of.Lts as lts
+use Rattle.grid.proofs.portions.portion_of.Reads as portion-of-reads
 
--- src/places.rt:29:33
-add-start-of : tie.Need-add-start-of
-add-start-of c = let s = c in let gd = s .good .0 .1 .1 .1 .1 in let ok = passed-accepted (s .args .plan) (gd .0 .1 .0 .1) (gd .1 .0 .1 .0 .1) (gd .1 .1 .0 .1 .0 .1) (s .pre .0) in let b = parts-small (s .args .plan) ok (s .args .d) (s .pre .1) in omega (arith, s .pre .2)
+-- src/places.rt:25:16
+element-copy-out-axis : tie.Need-element-copy-out-axis
+element-copy-out-axis c = let s = c in let gd = s .good .0 .1 .1 .1 .1 in let ok = passed-accepted (s .args .t1) (gd .0 .1 .0 .1) (gd .1 .0 .1 .0 .1) (gd .1 .1 .0 .1 .0 .1) (s .pre .0) in let f = few-axes ok in omega (arith, s .pre .1)
 
--- src/places.rt:29:9
-start-of-requires : tie.Need-start-of-requires
-start-of-requires c κs = search needs
+-- src/places.rt:25:16
+cast-axis : tie.Need-cast-axis
+cast-axis c = search needs
 
--- src/places.rt:30:9
-start-of-requires-2 : tie.Need-start-of-requires-2
-start-of-requires-2 c κs = search needs
+-- src/places.rt:26:16
+mul-portion-of : tie.Need-mul-portion-of
+mul-portion-of c = let s = c .before in let gd = s .good .0 .1 .1 .1 .1 in let ok = passed-accepted (s .args .t1) (gd .0 .1 .0 .1) (gd .1 .0 .1 .0 .1) (gd .1 .1 .0 .1 .0 .1) (s .pre .0) in let f = order-fits (s .args .t1) ok (s .args .d) (s .pre .1) in omega arith
 
--- src/places.rt:31:5
-sub-result : tie.Need-sub-result
-sub-result c = let s = c .before .before in let gd = s .good .0 .1 .1 .1 .1 in let ok = passed-accepted (s .args .plan) (gd .0 .1 .0 .1) (gd .1 .0 .1 .0 .1) (gd .1 .1 .0 .1 .0 .1) (s .pre .0) in let e = axes-same (s .args .plan) ok in let r = lawful (s .args .plan) ok .rising (s .args .d) (s .args .l) (omega (arith, s .pre .1)) (s .pre .2) in rw (c .start-of2 .ensures .0, c .before .start-of .ensures .0, add-one (s .args .l)) (omega arith)
+-- src/places.rt:26:16
+element-copy-out-portion-of : tie.Need-element-copy-out-portion-of
+element-copy-out-portion-of c = let s = c .before in let gd = s .good .0 .1 .1 .1 .1 in let ok = passed-accepted (s .args .t1) (gd .0 .1 .0 .1) (gd .1 .0 .1 .0 .1) (gd .1 .1 .0 .1 .0 .1) (s .pre .0) in order-fits (s .args .t1) ok (s .args .d) (s .pre .1)
 
--- src/places.rt:25:1
+-- src/places.rt:26:36
+element-copy-out-portion-of-2 : tie.Need-element-copy-out-portion-of-2
+element-copy-out-portion-of-2 c = let s = c .before .before in let gd = s .good .0 .1 .1 .1 .1 in let ok = passed-accepted (s .args .t1) (gd .0 .1 .0 .1) (gd .1 .0 .1 .0 .1) (gd .1 .1 .0 .1 .0 .1) (s .pre .0) in order-fits (s .args .t1) ok (s .args .d) (s .pre .1)
+
+-- src/places.rt:26:5
+portion-of-requires : tie.Need-portion-of-requires
+portion-of-requires c κs = let s = c .before .before .before in let gd = s .good .0 .1 .1 .1 .1 in let ok = passed-accepted (s .args .t1) (gd .0 .1 .0 .1) (gd .1 .0 .1 .0 .1) (gd .1 .1 .0 .1 .0 .1) (s .pre .0) in let b = parts-small (s .args .t1) ok (s .args .d) (s .pre .1) in (exponent-small (s .args .t1) ok (s .args .d) (s .pre .1), omega (arith, b .1, s .pre .2))
+
+-- src/places.rt:21:1
 returns : tie.Need-returns
-returns c = let s = c .before .before in let a = c .before .start-of .ensures in let b = c .start-of2 .ensures in let l : c .before .start-of .result - c .start-of2 .result ≤ 65535 = omega (arith, a .1) in (rw (a .0, b .0, add-one (s .args .l)) refl, l)
+returns c = let s = c .before .before .before .before in let gd = s .good .0 .1 .1 .1 .1 in let ok = passed-accepted (s .args .t1) (gd .0 .1 .0 .1) (gd .1 .0 .1 .0 .1) (gd .1 .1 .0 .1 .0 .1) (s .pre .0) in let e = start-here (s .args .t1) ok (s .args .d) (s .pre .1) in rw (c .portion-of .ensures, e (suc (s .args .l)), e (s .args .l)) (refl, (let m = start-small (s .args .t1) ok (s .args .d) (suc (s .args .l)) (s .pre .1) (s .pre .2) in omega arith))
 
 pub extent-of-spec : {M : Type 1} → statement M
 extent-of-spec =
-    tie.close (tie.spec add-start-of start-of-requires start-of-requires-2 sub-result returns)
+    tie.close
+    (tie.spec
+    element-copy-out-axis
+    cast-axis
+    mul-portion-of
+    element-copy-out-portion-of
+    element-copy-out-portion-of-2
+    portion-of-requires
+    returns)

@@ -57,7 +57,7 @@ first-cell-requires c κs = let s = c .before .before .before in
     let own = c .before .before .labels-of .ensures in
     let lb = c .before .before .labels-of .result in
     let fit = own-fit (s .args .plan) ok (s .args .board) (f .board) lb own in
-    (f .passed, fit)
+    (f .passed, fit, c .strides-of .ensures .1)
 
 -- src/forming.rt:58:9
 region-at-requires : tie.Need-region-at-requires

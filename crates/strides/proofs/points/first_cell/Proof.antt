@@ -1,71 +1,107 @@
 use native.Mathlib.Omega.{arith}
-use Rattle.planner.proofs.Accepting.{passed-accepted}
 use borrow.Author.Needs.{needs}
 use Prim.Native.Nat.{ℕ, _+_, _-_, _*_, _≤_, _<_}
-use mathlib.Core.Path.{_≡_, ap, _∙_}
+use mathlib.Core.Path.{_≡_, refl, sym, ap, ap₂, _∙_}
+use native.Mathlib.Numerals.{add-one}
 use lib.ListN.{getD}
 use Rattle.cube.specs.Boxes.{sumN}
+use Rattle.cube.specs.Limits.{pointLimit}
+use Rattle.cube.proofs.Naturals.{sumN-cong}
 use Rattle.planner.specs.Accepted.{Accepted}
-use Rattle.planner.proofs.PricingLaws.{few-axes}
-use Rattle.boards.specs.Finding.{planGrid, summedIn, Labels}
-use Rattle.memory.specs.Copies.{cellStride}
-use Rattle.memory.proofs.Strided.{PointTo, point-begin, point-turn, term-fits}
+use Rattle.planner.proofs.Accepting.{passed-accepted}
+use Rattle.planner.proofs.PricingLaws.{few-axes, order-fits}
+use Rattle.boards.specs.Finding.{planGrid, Labels}
+use Rattle.boards.proofs.Tallied.{exponent-small}
+use Rattle.boards.proofs.Planned.{start-small}
+use Rattle.grid.proofs.Portioned.{start-here, label-here}
+use Rattle.memory.proofs.Strided.{stride-small, term-fits}
 use Rattle.strides.proofs.points.first_cell.Statement.{statement}
 use Rattle.strides.proofs.points.first_cell.Tie as tie
+use Rattle.strides.proofs.points.first_cell.Reads as reads
+use Rattle.strides.proofs.points.first_cell.Lts as lts
+use Rattle.grid.proofs.portions.portion_start.Reads as portion-start-reads
+
+sum-last : (f : ℕ → ℕ) (d : ℕ) → sumN (d + 1) f ≡ sumN d f + f d
+sum-last f d = ap (λ n. sumN n f) (add-one d) ∙ (unfold sumN in refl)
 
 abbrev Inv-loop : tie.InvT-loop
-Inv-loop plan choice labels at₀ d₀ at d = (Accepted plan) × (Labels plan labels) × (d ≤ plan .axes) × PointTo plan (choice .mask) labels at d
+Inv-loop plan strides labels at₀ d₀ at d = (Accepted plan) × (Labels plan labels) × (d ≤ plan .axes) × (at ≡ sumN d (λ i. planGrid plan .start i (getD labels i 0) * getD strides i 0)) × (at ≤ 1099511627776 * d)
 
 abbrev μ-loop : tie.MeasureT-loop
-μ-loop plan choice labels at₀ d₀ at d = plan .axes - d
+μ-loop plan strides labels at₀ d₀ at d = plan .axes - d
 
--- src/points.rt:79:5
+-- src/points.rt:82:5
 loop-holds : tie.Need-loop-holds Inv-loop μ-loop
-loop-holds c = let gd = c .good .0 .1 .1 .1 .1 in let ok = passed-accepted (c .args .plan) (gd .0 .1 .0 .1) (gd .1 .0 .1 .0 .1) (gd .1 .1 .0 .1 .0 .1) (c .pre .0) in (ok, c .pre .1, omega arith, point-begin (c .args .plan) ok (c .args .choice .mask) (c .args .t3))
-
--- src/points.rt:79:15
-cast-if1 : tie.Need-cast-if1 Inv-loop μ-loop
-cast-if1 c = search needs
-
--- src/points.rt:80:39
-mul-start-of : tie.Need-mul-start-of Inv-loop μ-loop
-mul-start-of c = let z = c .before .before in let f = few-axes (z .loop .inv .0) in omega (arith, c .if1 .taken)
-
--- src/points.rt:80:39
-array-read-start-of : tie.Need-array-read-start-of Inv-loop μ-loop
-array-read-start-of c = let z = c .before .before in let f = few-axes (z .loop .inv .0) in omega (arith, c .if1 .taken)
-
--- src/points.rt:80:13
-start-of-requires : tie.Need-start-of-requires Inv-loop μ-loop
-start-of-requires c κs = let z = c .before .before in let l = z .before .pre .1 (z .loop .d) (c .if1 .taken) in (z .before .pre .0, c .if1 .taken, omega arith)
-
--- src/points.rt:81:13
-stride-of-requires : tie.Need-stride-of-requires Inv-loop μ-loop
-stride-of-requires c κs = let z = c .before .before .before in (z .before .pre .0, c .before .if1 .taken)
+unfolding sumN
+loop-holds c = let gd = c .good .0 .1 .1 .1 .1 in let ok = passed-accepted (c .args .t1) (gd .0 .1 .0 .1) (gd .1 .0 .1 .0 .1) (gd .1 .1 .0 .1 .0 .1) (c .pre .0) in (ok, c .pre .1, omega arith, refl, omega arith)
 
 -- src/points.rt:82:15
+cast-loop : tie.Need-cast-loop Inv-loop μ-loop
+cast-loop c = search needs
+
+-- src/points.rt:83:17
+element-copy-out-i : tie.Need-element-copy-out-i Inv-loop μ-loop
+element-copy-out-i c = let z = c .before in let s = z .before in let i = z .loop .inv in let h = c .loop-test .taken in let f = few-axes (i .0) in omega arith
+
+-- src/points.rt:83:17
+cast-i : tie.Need-cast-i Inv-loop μ-loop
+cast-i c = search needs
+
+-- src/points.rt:84:35
+mul-portion-start : tie.Need-mul-portion-start Inv-loop μ-loop
+mul-portion-start c = let z = c .before .before in let s = z .before in let i = z .loop .inv in let h = c .before .loop-test .taken in let f = order-fits (s .args .t1) (i .0) (z .loop .d) h in omega arith
+
+-- src/points.rt:84:35
+element-copy-out-portion-start : tie.Need-element-copy-out-portion-start Inv-loop μ-loop
+element-copy-out-portion-start c = let z = c .before .before in let s = z .before in let i = z .loop .inv in let h = c .before .loop-test .taken in order-fits (s .args .t1) (i .0) (z .loop .d) h
+
+-- src/points.rt:84:52
+element-copy-out-portion-start-2 : tie.Need-element-copy-out-portion-start-2 Inv-loop μ-loop
+element-copy-out-portion-start-2 c = let z = c .before .before .before in let s = z .before in let i = z .loop .inv in let h = c .before .before .loop-test .taken in order-fits (s .args .t1) (i .0) (z .loop .d) h
+
+-- src/points.rt:84:71
+mul-portion-start-2 : tie.Need-mul-portion-start-2 Inv-loop μ-loop
+mul-portion-start-2 c = let z = c .before .before .before .before in let s = z .before in let i = z .loop .inv in let h = c .before .before .before .loop-test .taken in let f = few-axes (i .0) in omega arith
+
+-- src/points.rt:84:71
+array-read-portion-start : tie.Need-array-read-portion-start Inv-loop μ-loop
+array-read-portion-start c = let z = c .before .before .before .before in let s = z .before in let i = z .loop .inv in let h = c .before .before .before .loop-test .taken in let f = few-axes (i .0) in omega arith
+
+-- src/points.rt:84:13
+portion-start-requires : tie.Need-portion-start-requires Inv-loop μ-loop
+portion-start-requires c κs = let z = c .before .before .before .before in let s = z .before in let i = z .loop .inv in let h = c .before .before .before .loop-test .taken in let l = label-here (s .args .t1) (i .0) (z .loop .d) h (s .args .t4) (i .1) in (exponent-small (s .args .t1) (i .0) (z .loop .d) h, omega arith)
+
+-- src/points.rt:85:24
 mul-at : tie.Need-mul-at Inv-loop μ-loop
-mul-at c = let m = term-fits _ _ (c .before .start-of .ensures .1) (c .stride-of .ensures .1) in omega arith
+mul-at c = let z = c .before .before .before .before .before in let s = z .before in let i = z .loop .inv in let h = c .before .before .before .before .loop-test .taken in let f = few-axes (i .0) in omega arith
 
--- src/points.rt:82:9
+-- src/points.rt:85:24
+array-read-at : tie.Need-array-read-at Inv-loop μ-loop
+array-read-at c = let z = c .before .before .before .before .before in let s = z .before in let i = z .loop .inv in let h = c .before .before .before .before .loop-test .taken in let f = few-axes (i .0) in omega arith
+
+-- src/points.rt:85:15
+mul-at-2 : tie.Need-mul-at-2 Inv-loop μ-loop
+mul-at-2 c = let z = c .before .before .before .before .before in let s = z .before in let i = z .loop .inv in let h = c .before .before .before .before .loop-test .taken in let r : getD (s .args .t4) (z .loop .d) 0 ≤ planGrid (s .args .t1) .parts (z .loop .d) = (let l = i .1 (z .loop .d) h in omega arith) in let e = c .portion-start .ensures ∙ start-here (s .args .t1) (i .0) (z .loop .d) h (getD (s .args .t4) (z .loop .d) 0) in let a = start-small (s .args .t1) (i .0) (z .loop .d) (getD (s .args .t4) (z .loop .d) 0) h r in let b : getD (s .args .t3) (z .loop .d) 0 ≤ pointLimit = rw (s .pre .2 (z .loop .d) h) (stride-small (s .args .t1) (i .0) (s .args .choice .mask) (z .loop .d) h) in let m = term-fits (c .portion-start .result) (getD (s .args .t3) (z .loop .d) 0) (rw e a) b in omega arith
+
+-- src/points.rt:85:9
 add-at : tie.Need-add-at Inv-loop μ-loop
-add-at c = let z = c .before .before .before .before in let i = z .loop .inv in let f = few-axes (i .0) in let h = c .before .before .if1 .taken in let m = term-fits _ _ (c .before .start-of .ensures .1) (c .stride-of .ensures .1) in let p = i .3 .fits in omega arith
+add-at c = let z = c .before .before .before .before .before in let s = z .before in let i = z .loop .inv in let h = c .before .before .before .before .loop-test .taken in let r : getD (s .args .t4) (z .loop .d) 0 ≤ planGrid (s .args .t1) .parts (z .loop .d) = (let l = i .1 (z .loop .d) h in omega arith) in let e = c .portion-start .ensures ∙ start-here (s .args .t1) (i .0) (z .loop .d) h (getD (s .args .t4) (z .loop .d) 0) in let a = start-small (s .args .t1) (i .0) (z .loop .d) (getD (s .args .t4) (z .loop .d) 0) h r in let b : getD (s .args .t3) (z .loop .d) 0 ≤ pointLimit = rw (s .pre .2 (z .loop .d) h) (stride-small (s .args .t1) (i .0) (s .args .choice .mask) (z .loop .d) h) in let m = term-fits (c .portion-start .result) (getD (s .args .t3) (z .loop .d) 0) (rw e a) b in let f = few-axes (i .0) in omega (arith, i .4)
 
--- src/points.rt:83:9
+-- src/points.rt:86:9
 add-d : tie.Need-add-d Inv-loop μ-loop
-add-d c = let z = c .before .before .before .before in let f = few-axes (z .loop .inv .0) in omega (arith, c .before .before .if1 .taken)
+add-d c = let z = c .before .before .before .before .before in let s = z .before in let i = z .loop .inv in let h = c .before .before .before .before .loop-test .taken in let f = few-axes (i .0) in omega arith
 
--- src/points.rt:79:5
+-- src/points.rt:82:5
 loop-less : tie.Need-loop-less Inv-loop μ-loop
-loop-less c = omega (arith, c .before .before .if1 .taken)
+loop-less c = let h = c .before .before .before .before .loop-test .taken in omega arith
 
--- src/points.rt:79:5
+-- src/points.rt:82:5
 loop-again : tie.Need-loop-again Inv-loop μ-loop
-loop-again c = let z = c .before .before .before .before in let s = z .before in let i = z .loop .inv in let h = c .before .before .if1 .taken in (i .0, i .1, omega (arith, h), point-turn (s .args .plan) (i .0) (s .args .choice .mask) (s .args .t3) (z .loop .at) (z .loop .d) _ _ (i .3) (c .before .start-of .ensures .0) (c .before .start-of .ensures .1) (c .stride-of .ensures .0) (c .stride-of .ensures .1))
+loop-again c = let z = c .before .before .before .before .before in let s = z .before in let i = z .loop .inv in let h = c .before .before .before .before .loop-test .taken in let r : getD (s .args .t4) (z .loop .d) 0 ≤ planGrid (s .args .t1) .parts (z .loop .d) = (let l = i .1 (z .loop .d) h in omega arith) in let e = c .portion-start .ensures ∙ start-here (s .args .t1) (i .0) (z .loop .d) h (getD (s .args .t4) (z .loop .d) 0) in let a = start-small (s .args .t1) (i .0) (z .loop .d) (getD (s .args .t4) (z .loop .d) 0) h r in let b : getD (s .args .t3) (z .loop .d) 0 ≤ pointLimit = rw (s .pre .2 (z .loop .d) h) (stride-small (s .args .t1) (i .0) (s .args .choice .mask) (z .loop .d) h) in let m = term-fits (c .portion-start .result) (getD (s .args .t3) (z .loop .d) 0) (rw e a) b in (i .0, i .1, omega (arith, h), ap₂ _+_ (i .3) (ap (λ x. x * getD (s .args .t3) (z .loop .d) 0) e) ∙ sym (sum-last (λ d. planGrid (s .args .t1) .start d (getD (s .args .t4) d 0) * getD (s .args .t3) d 0) (z .loop .d)), omega (arith, i .4))
 
--- src/points.rt:73:1
+-- src/points.rt:76:1
 returns : tie.Need-returns Inv-loop μ-loop
-returns c = let z = c .before .before in let s = z .before in let i = z .loop .inv in let e : z .loop .d ≡ s .args .plan .axes = omega (arith, i .2, c .if1 .left) in i .3 .counted ∙ ap (λ n. sumN n (λ d. planGrid (s .args .plan) .start d (getD (s .args .t3) d 0) * cellStride (planGrid (s .args .plan)) (summedIn (s .args .plan) (s .args .choice .mask)) d)) e
+returns c = let z = c .before in let s = z .before in let i = z .loop .inv in let e : z .loop .d ≡ s .args .t1 .axes = omega (arith, i .2, c .loop-test .left) in i .3 ∙ ap (λ n. sumN n (λ d. planGrid (s .args .t1) .start d (getD (s .args .t4) d 0) * getD (s .args .t3) d 0)) e ∙ sumN-cong (s .args .t1 .axes) (λ d h. ap (λ x. planGrid (s .args .t1) .start d (getD (s .args .t4) d 0) * x) (s .pre .2 d h))
 
 pub first-cell-spec : {M : Type 1} → statement M
 first-cell-spec =
@@ -74,12 +110,18 @@ first-cell-spec =
     Inv-loop
     μ-loop
     loop-holds
-    cast-if1
-    mul-start-of
-    array-read-start-of
-    start-of-requires
-    stride-of-requires
+    cast-loop
+    element-copy-out-i
+    cast-i
+    mul-portion-start
+    element-copy-out-portion-start
+    element-copy-out-portion-start-2
+    mul-portion-start-2
+    array-read-portion-start
+    portion-start-requires
     mul-at
+    array-read-at
+    mul-at-2
     add-at
     add-d
     loop-less
