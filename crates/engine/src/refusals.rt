@@ -8,9 +8,9 @@ ghost use Rattle.planner.specs.Refusals.{planRefusal};
 ghost use Rattle.memory.specs.Entries.{workCells, stepRefusal};
 use checks::plan_refusal;
 use choices::types::Choice;
-use grid::counts::steps_of;
 use grid::places::share_of;
 use planner::types::Plan;
+use tallies::counts::steps_of;
 
 // How many points a plan's array has.
 pub fn points_of(plan: Plan) -> u64

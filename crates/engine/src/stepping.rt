@@ -2,16 +2,16 @@
 ghost use mathlib.Core.Path.{_≡_};
 ghost use lib.ListN.{length};
 ghost use Rattle.boards.specs.Answers.{told};
-ghost use Rattle.grid.specs.Tallied.{Tallied};
+ghost use Rattle.tallies.specs.Tallied.{Tallied};
 ghost use Rattle.memory.specs.Entries.{outcome, stepRefusal, stepping};
 use crate::refusals::step_refusal;
 use boards::types::Step;
-use grid::counts::Tallies;
-use grid::counts::tallies_of;
 use moves::expansions::expand_all;
 use moves::transfers::move_cells;
 use planner::types::Plan;
 use rack::steps::step_by;
+use tallies::counts::Tallies;
+use tallies::counts::tallies_of;
 
 // Takes the step at the position on a work area, and moves the position; done at the end. For a call that no check refuses, so that a run is judged once.
 pub fn take(

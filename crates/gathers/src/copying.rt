@@ -18,7 +18,6 @@ use checks::plan_refusal;
 use choices::types::Choice;
 use copies::put_box;
 use engine::refusals::area_of;
-use grid::counts::steps_of;
 use grid::places::board_of;
 use grid::places::lead_labels;
 use grid::places::leads_of;
@@ -29,6 +28,7 @@ use planner::types::Plan;
 use strides::points::extents_of;
 use strides::points::first_cell;
 use strides::points::strides_of;
+use tallies::counts::steps_of;
 use views::viewing::step_before;
 
 // A lead's cells, which stand side by side from src on, go to their places in the result. Its labels and the choice's strides are lent.

@@ -1,3 +1,3 @@
-pub mod counts;
+// Boards, portions, leads and cells of a plan.
 pub mod places;
 pub mod portions;

@@ -12,10 +12,10 @@ use boards::types::Step;
 use choices::types::Choice;
 use engine::stepping::take;
 use gathers::copying::gather;
-use grid::counts::steps_of;
-use grid::counts::tallies_of;
 use lines::printing::put_group;
 use planner::types::Plan;
+use tallies::counts::steps_of;
+use tallies::counts::tallies_of;
 
 // The line of the choice that the position finishes, through a slice of as many cells.
 fn put_gathered(

@@ -12,13 +12,13 @@ ghost use Rattle.memory.specs.Taking.{toldBefore};
 use boards::types::Step;
 use checks::plan_refusal;
 use engine::refusals::area_of;
-use grid::counts::steps_of;
 use grid::places::cells_of;
 use grid::places::is_lead;
 use grid::places::next_of;
 use grid::places::region_at;
 use planner::types::Plan;
 use rack::steps::step_at;
+use tallies::counts::steps_of;
 
 // The step that leads to a position.
 pub fn step_before(plan: Plan, at: u64) -> Step

@@ -7,7 +7,7 @@ use Rattle.engine.proofs.stepping.step.Reads as reads
 use Rattle.engine.proofs.stepping.step.Lts as lts
 use Rattle.engine.proofs.refusals.step_refusal.Reads as step-refusal-reads
 use Rattle.engine.proofs.stepping.take.Reads as take-reads
-use Rattle.grid.proofs.counts.tallies_of.Reads as tallies-of-reads
+use Rattle.tallies.proofs.counts.tallies_of.Reads as tallies-of-reads
 
 -- src/stepping.rt:56:9
 step-refusal-requires : tie.Need-step-refusal-requires

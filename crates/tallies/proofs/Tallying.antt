@@ -14,8 +14,8 @@ use Rattle.planner.specs.declared.types.Plan.{Plan}
 use Rattle.planner.proofs.PricingLaws.{few-axes}
 use Rattle.boards.specs.Counts.{span, sendings}
 use Rattle.boards.specs.Finding.{planGrid}
-use Rattle.grid.specs.Tallied.{Tallied}
-use Rattle.grid.specs.declared.counts.Tallies.{Tallies}
+use Rattle.tallies.specs.Tallied.{Tallied}
+use Rattle.tallies.specs.declared.counts.Tallies.{Tallies}
 use Rattle.boards.proofs.Tallied.{span-end, span-next, sendings-end, sendings-next, span-small, sendings-small}
 
 -- the places from d on are filled

@@ -4,10 +4,10 @@ use Prim.Native.Nat.{_+_, _-_, _≤_}
 use mathlib.Core.Path.{refl}
 use Rattle.planner.proofs.PricingLaws.{few-axes}
 use Rattle.boards.proofs.Tallied.{sent-fits}
-use Rattle.grid.proofs.Tallying.{span-told}
+use Rattle.tallies.proofs.Tallying.{span-told}
 use borrow.Author.Needs.{needs}
-use Rattle.grid.proofs.counts.transfer_count.Statement.{statement}
-use Rattle.grid.proofs.counts.transfer_count.Tie as tie
+use Rattle.tallies.proofs.counts.transfer_count.Statement.{statement}
+use Rattle.tallies.proofs.counts.transfer_count.Tie as tie
 
 -- src/counts.rt:73:9
 parts-of-requires : tie.Need-parts-of-requires

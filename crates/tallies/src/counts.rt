@@ -6,7 +6,7 @@ ghost use Rattle.planner.specs.Refusals.{planRefusal};
 ghost use Rattle.boards.specs.Counts.{span, sendings, marks, walkCount};
 ghost use Rattle.boards.specs.Finding.{planGrid};
 ghost use Rattle.boards.specs.Answers.{countedReply, counting};
-ghost use Rattle.grid.specs.Tallied.{Tallied};
+ghost use Rattle.tallies.specs.Tallied.{Tallied};
 use boards::types::Counted;
 use checks::plan_refusal;
 use planner::types::Plan;

@@ -3,8 +3,8 @@ use Prim.Native.Nat.{_+_}
 use mathlib.Core.Path.{sym, ap, _∙_}
 use Rattle.boards.proofs.Tallied.{steps-same}
 use borrow.Author.Needs.{needs}
-use Rattle.grid.proofs.counts.steps_of.Statement.{statement}
-use Rattle.grid.proofs.counts.steps_of.Tie as tie
+use Rattle.tallies.proofs.counts.steps_of.Statement.{statement}
+use Rattle.tallies.proofs.counts.steps_of.Tie as tie
 
 -- src/counts.rt:82:9
 tallies-of-requires : tie.Need-tallies-of-requires

@@ -4,8 +4,8 @@ use borrow.Author.Needs.{needs}
 use Rattle.planner.proofs.Accepting.{passed-accepted}
 use Rattle.planner.proofs.PricingLaws.{few-axes, order-fits, shifted}
 use Rattle.boards.proofs.Tallied.{parts-slot, parts-small, exponent-small}
-use Rattle.grid.proofs.counts.parts_of.Statement.{statement}
-use Rattle.grid.proofs.counts.parts_of.Tie as tie
+use Rattle.tallies.proofs.counts.parts_of.Statement.{statement}
+use Rattle.tallies.proofs.counts.parts_of.Tie as tie
 
 element-copy-out-axis : tie.Need-element-copy-out-axis
 element-copy-out-axis c = let s = c in let g = s .good .0 .1 .1 .1 .1 in let ok = passed-accepted (s .args .t1) (g .0 .1 .0 .1) (g .1 .0 .1 .0 .1) (g .1 .1 .0 .1 .0 .1) (s .pre .0) in let f = few-axes ok in omega (arith, s .pre .1)

@@ -4,10 +4,10 @@ use mathlib.Core.Path.{refl}
 use Rattle.planner.proofs.PricingLaws.{few-axes}
 use Rattle.boards.specs.Counts.{walkCount}
 use Rattle.boards.proofs.Tallied.{count-fits}
-use Rattle.grid.proofs.Tallying.{sent-told}
+use Rattle.tallies.proofs.Tallying.{sent-told}
 use borrow.Author.Needs.{needs}
-use Rattle.grid.proofs.counts.walk_count.Statement.{statement}
-use Rattle.grid.proofs.counts.walk_count.Tie as tie
+use Rattle.tallies.proofs.counts.walk_count.Statement.{statement}
+use Rattle.tallies.proofs.counts.walk_count.Tie as tie
 
 -- src/counts.rt:64:27
 cast-marks-of : tie.Need-cast-marks-of

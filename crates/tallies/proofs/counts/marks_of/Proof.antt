@@ -5,8 +5,8 @@ use lib.Pow.{pow-pos, pow-mono}
 use Rattle.planner.proofs.PricingLaws.{shifted}
 use Rattle.boards.specs.Counts.{marks}
 use Rattle.boards.proofs.Tallied.{marks-some}
-use Rattle.grid.proofs.counts.marks_of.Statement.{statement}
-use Rattle.grid.proofs.counts.marks_of.Tie as tie
+use Rattle.tallies.proofs.counts.marks_of.Statement.{statement}
+use Rattle.tallies.proofs.counts.marks_of.Tie as tie
 
 returns : tie.Need-returns
 unfolding marks

@@ -4,8 +4,8 @@ use Rattle.planner.specs.Refusals.{planRefusal}
 use Rattle.planner.proofs.PricingLaws.{answer-given, answer-refused}
 use Rattle.boards.specs.Answers.{counting}
 use borrow.Author.Needs.{needs}
-use Rattle.grid.proofs.counts.step_count.Statement.{statement}
-use Rattle.grid.proofs.counts.step_count.Tie as tie
+use Rattle.tallies.proofs.counts.step_count.Statement.{statement}
+use Rattle.tallies.proofs.counts.step_count.Tie as tie
 
 -- src/counts.rt:88:9
 plan-refusal-requires : tie.Need-plan-refusal-requires

@@ -5,7 +5,7 @@ use lib.ListN.{getD}
 use Rattle.planner.specs.declared.types.Plan.{Plan}
 use Rattle.boards.specs.Counts.{span, sendings}
 use Rattle.boards.specs.Finding.{planGrid}
-use Rattle.grid.specs.declared.counts.Tallies.{Tallies}
+use Rattle.tallies.specs.declared.counts.Tallies.{Tallies}
 
 pub record Tallied (q : Plan) (t : Tallies) : Type 0 where
   pub spans : (d : ℕ) → d ≤ q .axes → getD (t .span) d 0 ≡ span (planGrid q) (q .axes - d) d

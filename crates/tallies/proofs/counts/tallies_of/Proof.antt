@@ -7,9 +7,9 @@ use borrow.Author.Needs.{needs}
 use Rattle.planner.specs.Accepted.{Accepted}
 use Rattle.planner.proofs.Accepting.{passed-accepted}
 use Rattle.planner.proofs.PricingLaws.{few-axes}
-use Rattle.grid.proofs.Tallying.{Tallying, tallying-start, tallying-turn, span-here, sent-here, turn-fits}
-use Rattle.grid.proofs.counts.tallies_of.Statement.{statement}
-use Rattle.grid.proofs.counts.tallies_of.Tie as tie
+use Rattle.tallies.proofs.Tallying.{Tallying, tallying-start, tallying-turn, span-here, sent-here, turn-fits}
+use Rattle.tallies.proofs.counts.tallies_of.Statement.{statement}
+use Rattle.tallies.proofs.counts.tallies_of.Tie as tie
 
 abbrev Inv-loop : tie.InvT-loop
 Inv-loop plan span₀ sent₀ d₀ span sent d = (Accepted plan) × (d ≤ plan .axes) × (length span ≡ 9) × (length sent ≡ 9) × Tallying plan span sent d
