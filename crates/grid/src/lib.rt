@@ -1,3 +1,2 @@
-// Boards, portions, leads and cells of a plan.
+// Boards, leads and cells of a plan.
 pub mod places;
-pub mod portions;

@@ -10,10 +10,10 @@ ghost use Rattle.cube.specs.Tree.{has, kept, next};
 ghost use Rattle.planner.specs.Refusals.{planRefusal};
 ghost use Rattle.boards.specs.Grids.{boards, boardWith, label, lead, box, cells, share, index};
 ghost use Rattle.boards.specs.Finding.{planGrid, summedIn, leads, leadLabel, Labels};
-use crate::portions::kept_portion;
-use crate::portions::portion_of;
 use choices::types::Choice;
 use planner::types::Plan;
+use portions::kept_portion;
+use portions::portion_of;
 use regions::region_of;
 use tallies::counts::parts_of;
 

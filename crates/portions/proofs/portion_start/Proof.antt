@@ -6,24 +6,24 @@ use lib.Pow.{pow-pos}
 use Rattle.cube.specs.Portions.{portionStart}
 use Rattle.planner.proofs.PricingLaws.{shifted}
 use borrow.Author.Needs.{needs}
-use Rattle.grid.proofs.portions.portion_start.Statement.{statement}
-use Rattle.grid.proofs.portions.portion_start.Tie as tie
-use Rattle.grid.proofs.portions.portion_start.Reads as reads
-use Rattle.grid.proofs.portions.portion_start.Lts as lts
+use Rattle.portions.proofs.portion_start.Statement.{statement}
+use Rattle.portions.proofs.portion_start.Tie as tie
+use Rattle.portions.proofs.portion_start.Reads as reads
+use Rattle.portions.proofs.portion_start.Lts as lts
 
--- src/portions.rt:13:17
+-- src/lib.rt:13:17
 shl-parts : tie.Need-shl-parts
 shl-parts c = search needs
 
--- src/portions.rt:14:5
+-- src/lib.rt:14:5
 mul-result : tie.Need-mul-result
 mul-result c = let l : c .args .length ≤ 4294967295 = search needs in let m = mul-le-mul (c .pre .1) l in omega arith
 
--- src/portions.rt:14:5
+-- src/lib.rt:14:5
 div-result : tie.Need-div-result
 div-result c = rw (shifted _ (c .pre .0)) (pow-pos _)
 
--- src/portions.rt:9:1
+-- src/lib.rt:9:1
 returns : tie.Need-returns
 unfolding portionStart
 returns c = rw (shifted _ (c .pre .0)) refl
