@@ -10,10 +10,10 @@ ghost use Rattle.planner.specs.Refusals.{planRefusal};
 ghost use Rattle.grouping.specs.Grouped.{Ready, groupsOf, groupsBefore, groupText};
 use boards::types::Step;
 use choices::types::Choice;
-use engine::stepping::take;
 use gathers::copying::gather;
 use lines::printing::put_group;
 use planner::types::Plan;
+use taking::take;
 use tallies::counts::steps_of;
 use tallies::counts::tallies_of;
 

@@ -6,9 +6,9 @@ ghost use Rattle.campaigns.specs.Judging.{judging};
 ghost use Rattle.tape.specs.Reading.{reading};
 ghost use Rattle.handing.specs.Standing.{campaignOf};
 ghost use Rattle.grouping.specs.Grouped.{Small};
-use engine::refusals::points_of;
 use planner::types::Planned;
 use reader::fill;
+use refusals::points_of;
 
 // Reads every point, which fits its type.
 pub fn bounded(points: &[i32])

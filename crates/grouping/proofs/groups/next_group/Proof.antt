@@ -18,7 +18,7 @@ use Rattle.grouping.proofs.groups.next_group.Statement.{statement}
 use Rattle.grouping.proofs.groups.next_group.Tie as tie
 use Rattle.grouping.proofs.groups.next_group.Reads as reads
 use Rattle.grouping.proofs.groups.next_group.Lts as lts
-use Rattle.engine.proofs.stepping.take.Reads as take-reads
+use Rattle.taking.proofs.take.Reads as take-reads
 use Rattle.tallies.proofs.counts.tallies_of.Reads as tallies-of-reads
 use Rattle.tallies.proofs.counts.steps_of.Reads as steps-of-reads
 use Rattle.grouping.proofs.groups.put_finished.Reads as put-finished-reads

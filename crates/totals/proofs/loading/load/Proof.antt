@@ -6,7 +6,7 @@ use Rattle.totals.proofs.loading.load.Statement.{statement}
 use Rattle.totals.proofs.loading.load.Tie as tie
 use Rattle.totals.proofs.loading.load.Reads as reads
 use Rattle.totals.proofs.loading.load.Lts as lts
-use Rattle.engine.proofs.refusals.points_of.Reads as points-of-reads
+use Rattle.refusals.proofs.points_of.Reads as points-of-reads
 use Rattle.reader.proofs.fill.Reads as fill-reads
 
 -- src/loading.rt:29:9

@@ -5,26 +5,26 @@ use mathlib.Core.Path.{_∙_, ap₂}
 use Rattle.boards.proofs.Refusing.{boards-shifted}
 use Rattle.memory.proofs.Refusing.{area-plan, area-small}
 use borrow.Author.Needs.{needs}
-use Rattle.engine.proofs.refusals.area_of.Statement.{statement}
-use Rattle.engine.proofs.refusals.area_of.Tie as tie
+use Rattle.refusals.proofs.area_of.Statement.{statement}
+use Rattle.refusals.proofs.area_of.Tie as tie
 
--- src/refusals.rt:30:26
+-- src/lib.rt:30:26
 cast-boards : tie.Need-cast-boards
 cast-boards c = search needs
 
--- src/refusals.rt:30:18
+-- src/lib.rt:30:18
 shl-boards : tie.Need-shl-boards
 shl-boards c = let s = c .before in let gd = s .good .0 .1 .1 .1 .1 in let ok = passed-accepted (s .args .plan) (gd .0 .1 .0 .1) (gd .1 .0 .1 .0 .1) (gd .1 .1 .0 .1 .0 .1) (s .pre) in let b = ok .boards in omega arith
 
--- src/refusals.rt:31:9
+-- src/lib.rt:31:9
 share-of-requires : tie.Need-share-of-requires
 share-of-requires c κs = search needs
 
--- src/refusals.rt:32:5
+-- src/lib.rt:32:5
 mul-result : tie.Need-mul-result
 mul-result c = let s = c .before .before in let gd = s .good .0 .1 .1 .1 .1 in let ok = passed-accepted (s .args .plan) (gd .0 .1 .0 .1) (gd .1 .0 .1 .0 .1) (gd .1 .1 .0 .1 .0 .1) (s .pre) in let b = area-small (s .args .plan) ok _ (c .share-of .result) (boards-shifted (s .args .plan) (ok .boards)) (c .share-of .ensures .1) in omega arith
 
--- src/refusals.rt:26:1
+-- src/lib.rt:26:1
 returns : tie.Need-returns
 returns c = let s = c .before .before in let gd = s .good .0 .1 .1 .1 .1 in let ok = passed-accepted (s .args .plan) (gd .0 .1 .0 .1) (gd .1 .0 .1 .0 .1) (gd .1 .1 .0 .1 .0 .1) (s .pre) in let e = boards-shifted (s .args .plan) (ok .boards) in (ap₂ _*_ e (c .share-of .ensures .0) ∙ area-plan (s .args .plan), area-small (s .args .plan) ok _ (c .share-of .result) e (c .share-of .ensures .1))
 
