@@ -13,12 +13,11 @@ ghost use Rattle.memory.specs.Gather.{gathered};
 ghost use Rattle.memory.specs.Entries.{gatherRefusal, gathering};
 ghost use Rattle.memory.specs.Copies.{cellStride, oneBoard, Copying};
 use boards::types::Step;
-use boxes::copies::put_box;
 use boxes::merging::merge;
 use checks::plan_refusal;
-use cube::types::Choice;
-use engine::refusals::area_of;
-use grid::counts::steps_of;
+use choices::types::Choice;
+use copies::put_box;
+use finishes::step_before;
 use grid::places::board_of;
 use grid::places::lead_labels;
 use grid::places::leads_of;
@@ -26,10 +25,11 @@ use grid::places::next_of;
 use grid::places::region_at;
 use grid::places::share_of;
 use planner::types::Plan;
+use refusals::area_of;
 use strides::points::extents_of;
 use strides::points::first_cell;
 use strides::points::strides_of;
-use views::viewing::step_before;
+use tallies::counts::steps_of;
 
 // A lead's cells, which stand side by side from src on, go to their places in the result. Its labels and the choice's strides are lent.
 pub fn copy_lead(

@@ -1,4 +1,2 @@
 pub mod Leads
-pub mod Portioned
 pub mod Regioned
-pub mod Tallying

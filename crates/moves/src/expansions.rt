@@ -12,7 +12,7 @@ ghost use Rattle.memory.specs.Expansions.{oneChild, Forms};
 ghost use Rattle.memory.specs.Taking.{Taking};
 use crate::forming::form_cells;
 use crate::forming::form_points;
-use cube::types::Choice;
+use choices::types::Choice;
 use grid::places::is_lead;
 use grid::places::next_of;
 use planner::types::Plan;

@@ -10,9 +10,9 @@ ghost use Rattle.planner.specs.Plans.{listsOf};
 ghost use Rattle.boards.specs.Finding.{planGrid, summedIn};
 ghost use Rattle.memory.specs.Memory.{read};
 ghost use Rattle.memory.specs.Expansions.{oneChild, Forms};
+use blocks::sum_axis;
 use boxes::merging::merge;
-use cells::rows::sum_axis;
-use cube::types::Choice;
+use choices::types::Choice;
 use grid::places::cells_between;
 use grid::places::extent_of;
 use grid::places::labels_of;
@@ -22,7 +22,7 @@ use planner::types::Plan;
 use strides::points::extents_of;
 use strides::points::first_cell;
 use strides::points::strides_of;
-use sums::boxes::sum_box;
+use sums::summing::sum_box;
 
 // Of a choice whose cells stand in the work area: they are (outer, extent, inner) around the axis at place j, which is summed out.
 pub fn form_cells(plan: Plan, choice: Choice, board: u64, j: usize, work: &mut [i64])

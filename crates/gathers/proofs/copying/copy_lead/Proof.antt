@@ -11,7 +11,7 @@ use Rattle.gathers.proofs.copying.copy_lead.Statement.{statement}
 use Rattle.gathers.proofs.copying.copy_lead.Tie as tie
 use Rattle.gathers.proofs.copying.copy_lead.Reads as reads
 use Rattle.gathers.proofs.copying.copy_lead.Lts as lts
-use Rattle.boxes.proofs.copies.put_box.Reads as put-box-reads
+use Rattle.copies.proofs.put_box.Reads as put-box-reads
 use Rattle.boxes.proofs.merging.merge.Reads as merge-reads
 use Rattle.strides.proofs.points.extents_of.Reads as extents-of-reads
 use Rattle.strides.proofs.points.first_cell.Reads as first-cell-reads

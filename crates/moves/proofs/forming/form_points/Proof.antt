@@ -22,7 +22,7 @@ use Rattle.moves.proofs.forming.form_points.Tie as tie
 use Rattle.moves.proofs.forming.form_points.Reads as reads
 use Rattle.moves.proofs.forming.form_points.Lts as lts
 use Rattle.boxes.proofs.merging.merge.Reads as merge-reads
-use Rattle.sums.proofs.boxes.sum_box.Reads as sum-box-reads
+use Rattle.sums.proofs.summing.sum_box.Reads as sum-box-reads
 use Rattle.grid.proofs.places.labels_of.Reads as labels-of-reads
 use Rattle.grid.proofs.places.region_at.Reads as region-at-reads
 use Rattle.strides.proofs.points.extents_of.Reads as extents-of-reads
