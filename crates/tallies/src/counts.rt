@@ -57,13 +57,21 @@ pub fn marks_of(m: usize) -> u64
     ((1u64 << m) - 1) + ((1u64 << (m - 1)) - 1)
 }
 
+// The steps of a walk over m axes that sends `sent` transfers for each of n labellings. On numbers, since the search for a step asks it in every turn.
+pub fn count_with(sent: u32, m: usize, n: u64) -> u64
+    requires { ⌜ (sent ≤ 262144) × (m ≤ 8) × (n ≤ 1024) ⌝ }
+    ensures { λ r. ⌜ (r ≡ sent * n + marks m) × (r < 2 ^ 32) ⌝ }
+{
+    let others = marks_of(m);
+    (sent as u64) * n + others
+}
+
 // The steps of the walk over the axes from place d on, of a choice whose kept axes before d have n labellings.
 pub fn walk_count(plan: Plan, d: usize, n: u64, tallies: Tallies) -> u64
     requires { ⌜ (planRefusal plan ≡ 0) × (d ≤ plan .axes) × (n ≤ 1024) × (Tallied plan tallies) ⌝ }
     ensures { λ r. ⌜ (r ≡ walkCount (planGrid plan) (plan .axes - d) d n) × (r < 2 ^ 32) ⌝ }
 {
-    let others = marks_of(plan.axes as usize - d);
-    (tallies.sent[d] as u64) * n + others
+    count_with(tallies.sent[d], plan.axes as usize - d, n)
 }
 
 // The transfers of the child that sums out the axis at place d.
