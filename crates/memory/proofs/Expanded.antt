@@ -1,15 +1,15 @@
 -- The turns of an expansion: the work area as a list, lead by lead and child by child.
-use Prim.Native.Nat.{ℕ, suc, _+_, _*_, _/_, _≤_, _<_}
+use Prim.Native.Nat.{ℕ, suc, _+_, _*_, _≤_, _<_}
 use mathlib.Core.Path.{_≡_, sym, _∙_, refl, ap, ap₂, fun-ext}
 use mathlib.Core.Bool.{true}
 use mathlib.Core.List.{List, [], _∷_}
-use native.Mathlib.Nat.{zero-add, le-refl, le-div-iff-mul-le}
+use native.Mathlib.Nat.{zero-add, le-div-iff-mul-le}
 use native.Mathlib.Omega.{arith}
 use borrow.Author.Tests.{ltb-true, ltb-false}
 use lib.Dec.{ltb}
-use lib.ListN.{length, getD, List·getD-eq-default}
+use lib.ListN.{length, List·getD-eq-default}
 use lib.IntN.{ℤ, pos}
-use Rattle.cube.specs.Boxes.{table, tableFrom}
+use Rattle.cube.specs.Boxes.{table}
 use Rattle.cube.specs.Tree.{next}
 use Rattle.cube.proofs.Sums.{by}
 use Rattle.cube.proofs.Sets.{Down}
@@ -18,7 +18,7 @@ use Rattle.planner.specs.Plans.{listsOf}
 use Rattle.planner.specs.Refusals.{planRefusal}
 use Rattle.planner.specs.declared.types.Plan.{Plan}
 use Rattle.planner.specs.Accepted.{Accepted}
-use Rattle.boards.specs.Grids.{Grid, Lawful, summedBy, summed, boards, lead, share, boardOf, regionOf}
+use Rattle.boards.specs.Grids.{Grid, Lawful, summedBy, summed, boards, lead, share, boardOf}
 use Rattle.boards.specs.Steps.{expand}
 use Rattle.boards.specs.Finding.{planGrid, summedIn, leads, leadAt}
 use Rattle.boards.proofs.Tallied.{lawful, axes-same}

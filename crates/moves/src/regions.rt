@@ -1,6 +1,6 @@
 // The regions of a share, worked out once for all boards and children of an expansion.
 ghost use mathlib.Core.Path.{_≡_};
-ghost use Prim.Native.Nat.{ℕ, _+_, _*_, _^_, _≤_, _<_};
+ghost use Prim.Native.Nat.{_+_, _*_, _^_, _≤_, _<_};
 ghost use lib.ListN.{getD};
 ghost use Rattle.cube.specs.Limits.{pointLimit};
 ghost use Rattle.planner.specs.Refusals.{planRefusal};

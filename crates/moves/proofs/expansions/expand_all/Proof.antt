@@ -1,6 +1,5 @@
 -- `moves::expansions::expand_all` meets its contract. The invariant: the leads of a rank below r are expanded.
-use Prim.Native.Nat.{ℕ, _+_, _-_, _≤_, _<_}
-use mathlib.Core.Path.{_≡_}
+use Prim.Native.Nat.{_-_}
 use native.Mathlib.Omega.{arith}
 use Rattle.planner.specs.Accepted.{Accepted}
 use Rattle.planner.proofs.Accepting.{passed-accepted}
@@ -8,13 +7,6 @@ use Rattle.memory.specs.Memory.{read}
 use Rattle.memory.proofs.Expanded.{Ranks, ranks-begin, ranks-length, ranks-expand, ranks-turn, ranks-done}
 use Rattle.moves.proofs.expansions.expand_all.Statement.{statement}
 use Rattle.moves.proofs.expansions.expand_all.Tie as tie
-use Rattle.moves.proofs.expansions.expand_all.Reads as reads
-use Rattle.moves.proofs.expansions.expand_all.Lts as lts
-use Rattle.grid.proofs.places.leads_of.Reads as leads-of-reads
-use Rattle.grid.proofs.places.next_of.Reads as next-of-reads
-use Rattle.moves.proofs.expansions.expand_lead.Reads as expand-lead-reads
-use Rattle.moves.proofs.regions.regions_of.Reads as regions-of-reads
-use Rattle.strides.proofs.points.strides_of.Reads as strides-of-reads
 
 abbrev Inv-loop : tie.InvT-loop
 Inv-loop plan choice array work₀ next regions strides leads r₀ work r = (Accepted plan) × Ranks plan (choice .mask) (read array) leads work₀ work r

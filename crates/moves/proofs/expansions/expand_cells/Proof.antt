@@ -1,6 +1,6 @@
 -- `moves::expansions::expand_cells` meets its contract. The invariant: the lead's children in regions before j are formed.
-use Prim.Native.Nat.{ℕ, _+_, _-_, _≤_, _<_}
-use mathlib.Core.Path.{_≡_, sym, ap, _∙_}
+use Prim.Native.Nat.{_-_}
+use mathlib.Core.Path.{sym, ap, _∙_}
 use mathlib.Core.List.{[]}
 use native.Mathlib.Omega.{arith}
 use borrow.Author.Needs.{needs}
@@ -17,11 +17,6 @@ use Rattle.memory.proofs.Expanded.{Children, children-begin, children-length, c
 use Rattle.memory.proofs.Ranked.{ranked-inside, ranked-lead, ranked-own, ranked-labels, ranked-board}
 use Rattle.moves.proofs.expansions.expand_cells.Statement.{statement}
 use Rattle.moves.proofs.expansions.expand_cells.Tie as tie
-use Rattle.moves.proofs.expansions.expand_cells.Reads as reads
-use Rattle.moves.proofs.expansions.expand_cells.Lts as lts
-use Rattle.grid.proofs.places.board_of.Reads as board-of-reads
-use Rattle.grid.proofs.places.lead_labels.Reads as lead-labels-reads
-use Rattle.moves.proofs.forming.form_cells.Reads as form-cells-reads
 
 abbrev Inv-loop : tie.InvT-loop
 Inv-loop plan choice next regions rank work₀ labels board n j₀ work j = (Accepted plan) × Children plan (choice .mask) (read []) (leadAt (planGrid plan) (summedIn plan (choice .mask)) rank) work₀ work j

@@ -1,6 +1,5 @@
 -- `moves::expansions::expand_lead` meets its contract: a choice in the work area does not read the array.
-use Prim.Native.Nat.{ℕ, _<_}
-use mathlib.Core.Path.{_≡_, _∙_}
+use mathlib.Core.Path.{_∙_}
 use native.Mathlib.Omega.{arith}
 use lib.ListN.{length}
 use Rattle.boards.specs.Finding.{planGrid, summedIn, leadAt}
@@ -10,10 +9,6 @@ use Rattle.memory.proofs.Expanded.{array-unread}
 use borrow.Author.Needs.{needs}
 use Rattle.moves.proofs.expansions.expand_lead.Statement.{statement}
 use Rattle.moves.proofs.expansions.expand_lead.Tie as tie
-use Rattle.moves.proofs.expansions.expand_lead.Reads as reads
-use Rattle.moves.proofs.expansions.expand_lead.Lts as lts
-use Rattle.moves.proofs.expansions.expand_cells.Reads as expand-cells-reads
-use Rattle.moves.proofs.expansions.expand_points.Reads as expand-points-reads
 
 -- src/expansions.rt:102:9
 expand-points-requires : tie.Need-expand-points-requires

@@ -1,6 +1,6 @@
 -- `moves::expansions::expand_points` meets its contract. The invariant: the board's children in regions before j are formed.
-use Prim.Native.Nat.{ℕ, _+_, _-_, _≤_, _<_}
-use mathlib.Core.Path.{_≡_, sym, ap, _∙_}
+use Prim.Native.Nat.{_-_}
+use mathlib.Core.Path.{sym, ap, _∙_}
 use native.Mathlib.Omega.{arith}
 use borrow.Author.Needs.{needs}
 use lib.ListN.{length}
@@ -8,7 +8,7 @@ use Rattle.cube.specs.Boxes.{table}
 use Rattle.planner.specs.Accepted.{Accepted}
 use Rattle.planner.proofs.Accepting.{passed-accepted}
 use Rattle.planner.proofs.PricingLaws.{few-axes}
-use Rattle.boards.specs.Finding.{planGrid, summedIn, leadAt}
+use Rattle.boards.specs.Finding.{planGrid, summedIn}
 use Rattle.boards.proofs.Planned.{own-fit}
 use Rattle.memory.specs.Memory.{read}
 use Rattle.memory.specs.Expansions.{childrenTo}
@@ -17,12 +17,6 @@ use Rattle.memory.proofs.Ranked.{root-lead}
 use Rattle.memory.proofs.Strided.{board-box, next-empty}
 use Rattle.moves.proofs.expansions.expand_points.Statement.{statement}
 use Rattle.moves.proofs.expansions.expand_points.Tie as tie
-use Rattle.moves.proofs.expansions.expand_points.Reads as reads
-use Rattle.moves.proofs.expansions.expand_points.Lts as lts
-use Rattle.grid.proofs.places.labels_of.Reads as labels-of-reads
-use Rattle.moves.proofs.forming.form_points.Reads as form-points-reads
-use Rattle.strides.proofs.points.extents_of.Reads as extents-of-reads
-use Rattle.strides.proofs.points.first_cell.Reads as first-cell-reads
 
 abbrev Inv-loop : tie.InvT-loop
 Inv-loop plan root regions strides board array work₀ extents first n j₀ work j = (Accepted plan) × Children plan (root .mask) (read array) board work₀ work j

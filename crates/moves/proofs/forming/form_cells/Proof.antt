@@ -1,6 +1,6 @@
 -- `moves::forming::form_cells` meets its contract.
-use Prim.Native.Nat.{ℕ, _-_, _≤_, _<_}
-use mathlib.Core.Path.{_≡_, ap, _∙_}
+use Prim.Native.Nat.{_-_, _<_}
+use mathlib.Core.Path.{ap, _∙_}
 use native.Mathlib.Nat.{le-refl}
 use native.Mathlib.Omega.{arith}
 use Rattle.planner.proofs.Accepting.{passed-accepted}
@@ -13,12 +13,6 @@ use Rattle.memory.proofs.Formed.{down-of, place-in, room-in, outer-is, inner-is
 use borrow.Author.Needs.{needs}
 use Rattle.moves.proofs.forming.form_cells.Statement.{statement}
 use Rattle.moves.proofs.forming.form_cells.Tie as tie
-use Rattle.moves.proofs.forming.form_cells.Reads as reads
-use Rattle.moves.proofs.forming.form_cells.Lts as lts
-use Rattle.cells.proofs.rows.sum_axis.Reads as sum-axis-reads
-use Rattle.grid.proofs.places.cells_between.Reads as cells-between-reads
-use Rattle.grid.proofs.places.extent_of.Reads as extent-of-reads
-use Rattle.moves.proofs.regions.region_in.Reads as region-in-reads
 
 -- src/forming.rt:28:9
 cells-between-requires : tie.Need-cells-between-requires

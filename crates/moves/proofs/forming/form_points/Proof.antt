@@ -1,6 +1,5 @@
 -- `moves::forming::form_points` meets its contract.
-use Prim.Native.Nat.{ℕ, _+_, _-_, _≤_, _<_}
-use mathlib.Core.Path.{_≡_, sym, ap, _∙_}
+use mathlib.Core.Path.{sym, ap, _∙_}
 use native.Mathlib.Omega.{arith}
 use denote.Ref.{now}
 use lib.ListN.{length, getD}
@@ -19,11 +18,6 @@ use Rattle.memory.proofs.Strided.{child-box, child-slots, child-merges, root-co
 use borrow.Author.Needs.{needs}
 use Rattle.moves.proofs.forming.form_points.Statement.{statement}
 use Rattle.moves.proofs.forming.form_points.Tie as tie
-use Rattle.moves.proofs.forming.form_points.Reads as reads
-use Rattle.moves.proofs.forming.form_points.Lts as lts
-use Rattle.boxes.proofs.merging.merge.Reads as merge-reads
-use Rattle.moves.proofs.regions.region_in.Reads as region-in-reads
-use Rattle.sums.proofs.boxes.sum_box.Reads as sum-box-reads
 
 -- src/forming.rt:68:9
 region-in-requires : tie.Need-region-in-requires

@@ -1,14 +1,10 @@
 -- `moves::regions::region_in` meets its contract.
-use Prim.Native.Nat.{ℕ, _+_, _*_, _≤_, _<_}
-use mathlib.Core.Path.{_≡_, refl}
+use mathlib.Core.Path.{refl}
 use native.Mathlib.Omega.{arith}
 use native.Mathlib.Nat.{mul-le-mul}
-use lib.ListN.{getD}
 use borrow.Author.Needs.{needs}
 use Rattle.moves.proofs.regions.region_in.Statement.{statement}
 use Rattle.moves.proofs.regions.region_in.Tie as tie
-use Rattle.moves.proofs.regions.region_in.Reads as reads
-use Rattle.moves.proofs.regions.region_in.Lts as lts
 
 -- src/regions.rt:38:5
 mul-result : tie.Need-mul-result

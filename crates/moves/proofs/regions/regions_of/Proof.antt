@@ -1,5 +1,5 @@
 -- `moves::regions::regions_of` meets its contract. The invariant: the regions before region i stand in their slots.
-use Prim.Native.Nat.{ℕ, _+_, _-_, _*_, _≤_, _<_}
+use Prim.Native.Nat.{ℕ, _-_, _≤_, _<_}
 use mathlib.Core.Path.{_≡_, refl, _∙_}
 use native.Mathlib.Omega.{arith}
 use borrow.Author.Needs.{needs}
@@ -7,17 +7,11 @@ use lib.ListN.{getD, length, length-set}
 use Rattle.planner.specs.Accepted.{Accepted}
 use Rattle.planner.proofs.Accepting.{passed-accepted}
 use Rattle.planner.proofs.PricingLaws.{few-axes, filled-next}
-use Rattle.cube.specs.Limits.{pointLimit}
-use Rattle.boards.specs.Grids as Grids
 use Rattle.boards.specs.Grids.{regionStart}
 use Rattle.boards.specs.Finding.{planGrid}
 use Rattle.boards.proofs.Planned.{start-plan}
 use Rattle.moves.proofs.regions.regions_of.Statement.{statement}
 use Rattle.moves.proofs.regions.regions_of.Tie as tie
-use Rattle.moves.proofs.regions.regions_of.Reads as reads
-use Rattle.moves.proofs.regions.regions_of.Lts as lts
-use Rattle.grid.proofs.places.share_of.Reads as share-of-reads
-use Rattle.prices.proofs.pricing.region_of.Reads as region-of-reads
 
 abbrev Inv-loop : tie.InvT-loop
 Inv-loop plan share starts₀ i₀ starts i = (Accepted plan) × (i ≤ plan .axes) × (length starts ≡ 8) × ((k : ℕ) → k < i → getD starts k 0 ≡ regionStart (planGrid plan) k)
