@@ -1,4 +1,4 @@
-use cube::types::Choice;
+use choices::types::Choice;
 
 // A transfer: all cells of the choice that the sender has are added to the receiver's.
 pub struct Transfer {

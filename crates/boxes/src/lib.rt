@@ -1,3 +1,2 @@
-// Boxes through strides: axes merged, and cells copied to the boxes of a result.
-pub mod copies;
+// Boxes through strides: axes merged.
 pub mod merging;

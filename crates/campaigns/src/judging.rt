@@ -4,12 +4,12 @@ ghost use Prim.Native.Nat.{_≤_};
 ghost use lib.ListN.{length, take};
 ghost use Rattle.planner.specs.Answers.{planning};
 ghost use Rattle.campaigns.specs.Judging.{judging};
-use engine::refusals::area_of;
-use engine::refusals::points_of;
 use planner::types::Planned;
 use planning::planning::plan;
 use planning::planning::refused;
-use reader::scan;
+use refusals::area_of;
+use refusals::points_of;
+use scanner::scan;
 
 // The plan for the first n lengths.
 fn plan_first(lengths: &[u32], n: usize, p: u8) -> Planned

@@ -1,3 +1,1 @@
-// Cells that stand side by side: sums modulo 2^64, and rows.
-pub mod rows;
-pub mod wrapping;
+// Definitions and laws of cells in slices; its code is in `rows`, `blocks`, `boxes`, `copies` and `sums`.

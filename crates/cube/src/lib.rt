@@ -1,1 +1,1 @@
-pub mod types;
+// Definitions and laws of choices, boxes and the tree; the code of choices is in `choices`.

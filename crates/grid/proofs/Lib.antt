@@ -1,3 +1,2 @@
 pub mod Leads
-pub mod Portioned
-pub mod Tallying
+pub mod Regioned

@@ -1,3 +1,2 @@
-pub mod counts;
+// Boards, leads and cells of a plan.
 pub mod places;
-pub mod portions;

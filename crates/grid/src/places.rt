@@ -10,12 +10,12 @@ ghost use Rattle.cube.specs.Tree.{has, kept, next};
 ghost use Rattle.planner.specs.Refusals.{planRefusal};
 ghost use Rattle.boards.specs.Grids.{boards, boardWith, label, lead, box, cells, share, index};
 ghost use Rattle.boards.specs.Finding.{planGrid, summedIn, leads, leadLabel, Labels};
-use crate::counts::parts_of;
-use crate::portions::kept_portion;
-use crate::portions::portion_of;
-use cube::types::Choice;
+use choices::types::Choice;
 use planner::types::Plan;
-use prices::pricing::region_of;
+use portions::kept_portion;
+use portions::portion_of;
+use regions::region_of;
+use tallies::counts::parts_of;
 
 // How many positions portion l of the axis at place d has.
 pub fn extent_of(plan: Plan, d: usize, l: u64) -> u64

@@ -7,19 +7,19 @@ ghost use Rattle.boards.specs.Grids.{boards};
 ghost use Rattle.boards.specs.Held as Holding;
 ghost use Rattle.boards.specs.Finding.{planGrid, summedIn, heldWalk, Walking, Forming};
 ghost use Rattle.boards.specs.Answers.{heldReply, holding};
-ghost use Rattle.grid.specs.Tallied.{Tallied};
+ghost use Rattle.tallies.specs.Tallied.{Tallied};
 use boards::types::Held;
 use checks::plan_refusal;
-use cube::types::Choice;
-use grid::counts::Tallies;
-use grid::counts::parts_of;
-use grid::counts::steps_of;
-use grid::counts::tallies_of;
-use grid::counts::transfer_count;
-use grid::counts::walk_count;
+use choices::types::Choice;
 use grid::places::cells_of;
 use grid::places::is_lead;
 use planner::types::Plan;
+use tallies::counts::Tallies;
+use tallies::counts::parts_of;
+use tallies::counts::steps_of;
+use tallies::counts::tallies_of;
+use tallies::counts::transfer_count;
+use tallies::counts::walk_count;
 
 // The cells of a child on a board, which forms them if it is a lead of the parent.
 pub fn own_of(plan: Plan, parent: Choice, child: Choice, board: u64) -> u64

@@ -37,11 +37,6 @@ pub record StrideTo (q : Plan) (mask first count a : ℕ) : Type 0 where
   pub counted : count ≡ product (keptAlong (planGrid q) (summedIn q mask)) (a - first) first
   pub fits : count ≤ pointLimit
 
--- the first cell so far: what the axes up to place d add
-pub record PointTo (q : Plan) (mask : ℕ) (labels : List ℕ) (at d : ℕ) : Type 0 where
-  pub counted : at ≡ sumN d (λ i. planGrid q .start i (getD labels i 0) * cellStride (planGrid q) (summedIn q mask) i)
-  pub fits : at ≤ 1099511627776 * d
-
 pub term-fits : (s t : ℕ) → s ≤ lengthLimit → t ≤ pointLimit → s * t ≤ 1099511627776
 term-fits s t a b = let m = mul-le-mul {n₁ = s} {m₁ = t} {n₂ = 65535} {m₂ = 16777216} a b in omega arith
 
@@ -127,19 +122,6 @@ module _ (q : Plan) (ok : Accepted q) where
         let x = axes-same q ok in
         let o = lawful q ok .order-lt d (omega arith) in
         part-small (planGrid q .axes - (planGrid q .order d + 1)) (planGrid q .order d + 1) (omega arith)
-
-    -- ---- the first cell
-
-    pub point-begin : (labels : List ℕ) → PointTo q mask labels 0 0
-    point-begin labels = record { counted = unfold sumN in refl; fits = omega arith }
-
-    pub point-turn : (labels : List ℕ) (at d s t : ℕ) → PointTo q mask labels at d → s ≡ planGrid q .start d (getD labels d 0) → s ≤ lengthLimit → t ≡ cellStride (planGrid q) (summedIn q mask) d → t ≤ pointLimit → PointTo q mask labels (at + s * t) (d + 1)
-    point-turn labels at d s t p es fs et ft =
-        let m = term-fits s t fs ft in
-        record {
-          counted = ap₂ _+_ (p .counted) (ap₂ _*_ es et) ∙ sym (ap (λ n. sumN n (λ i. planGrid q .start i (getD labels i 0) * cellStride (planGrid q) (summedIn q mask) i)) (add-one d) ∙ (unfold sumN in refl));
-          fits = let f = p .fits in omega arith;
-        }
 
     -- ---- the box of a board
 

@@ -14,9 +14,9 @@ ghost use Rattle.memory.specs.Expansions.{childrenTo, Expands, Regioned, Stride
 ghost use Rattle.memory.specs.Taking.{Taking};
 use crate::forming::form_cells;
 use crate::forming::form_points;
-use crate::regions::Regions;
-use crate::regions::regions_of;
-use cube::types::Choice;
+use crate::shares::Regions;
+use crate::shares::regions_of;
+use choices::types::Choice;
 use grid::places::board_of;
 use grid::places::labels_of;
 use grid::places::lead_labels;

@@ -10,15 +10,15 @@ ghost use Rattle.planner.specs.Plans.{listsOf};
 ghost use Rattle.boards.specs.Finding.{planGrid, summedIn};
 ghost use Rattle.memory.specs.Memory.{read};
 ghost use Rattle.memory.specs.Expansions.{oneChild, Forms, Own, Regioned, BoardBox};
-use crate::regions::Regions;
-use crate::regions::region_in;
+use crate::shares::Regions;
+use crate::shares::region_in;
+use blocks::sum_axis;
 use boxes::merging::merge;
-use cells::rows::sum_axis;
-use cube::types::Choice;
+use choices::types::Choice;
 use grid::places::cells_between;
 use grid::places::extent_of;
 use planner::types::Plan;
-use sums::boxes::sum_box;
+use sums::summing::sum_box;
 
 // Of a choice whose cells stand in the work area: they are (outer, extent, inner) around the axis at place j, which is summed out.
 pub fn form_cells(

@@ -1,5 +1,5 @@
 // What steps write to the work area.
 pub mod expansions;
 pub mod forming;
-pub mod regions;
+pub mod shares;
 pub mod transfers;

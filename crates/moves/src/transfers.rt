@@ -7,10 +7,10 @@ ghost use Rattle.boards.specs.Finding.{planGrid, summedIn};
 ghost use Rattle.memory.specs.Memory.{stepped};
 ghost use Rattle.memory.specs.Taking.{Taking};
 use boards::types::Transfer;
-use cells::rows::add_row;
 use grid::places::next_of;
 use grid::places::region_at;
 use planner::types::Plan;
+use rows::adding::add_row;
 
 // Adds the sender's cells of a choice to the receiver's; both stand at the start of the region of the last summed axis.
 pub fn move_cells(plan: Plan, t: Transfer, work: &mut [i64])

@@ -1,12 +1,12 @@
 use checks::lengths_refusal;
 use checks::room_of;
+use orders::by_axis;
+use orders::slots;
 use planner::types::Plan;
 use planner::types::Planned;
 use planner::types::Prices;
 use prices::pricing::prices;
 use rules::rule::arrange;
-use rules::rule::by_axis;
-use rules::rule::slots;
 ghost use mathlib.Core.Path.{_≡_};
 ghost use Prim.Native.Nat.{_≤_, _<_};
 ghost use lib.ListN.{take};

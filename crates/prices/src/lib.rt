@@ -1,2 +1,2 @@
-// A plan's prices and regions.
+// A plan's prices.
 pub mod pricing;

@@ -24,7 +24,7 @@ pub extern "C" fn tape_scan(tape: &[u8], out: &mut [u64]) -> u8
     ensures { λ r. ⌜ (r ≡ probeRefusal (now (tape .entry)) (length (now (out .entry))))
         × (now (out .exit) ≡ probed (now (tape .entry)) (now (out .entry))) ⌝ }
 {
-    let found = reader::scan(tape);
+    let found = scanner::scan(tape);
     if found.refusal != 0 {
         return found.refusal;
     }

@@ -11,10 +11,10 @@ use boards::types::Counted;
 use boards::types::Held;
 use boards::types::Step;
 use checks::plan_refusal;
-use grid::counts::step_count;
 use holds::holds::held;
 use planner::types::Plan;
 use rack::steps::step_at;
+use tallies::counts::step_count;
 
 // Eight bytes of a slice.
 fn bytes_from(small: &[u8], from: usize) -> [u8; 8]

@@ -5,19 +5,19 @@ ghost use Rattle.planner.specs.Refusals.{planRefusal};
 ghost use Rattle.boards.specs.Steps.{visit, walk, steps};
 ghost use Rattle.boards.specs.Finding.{planGrid, summedIn, found, Walking, Sending};
 ghost use Rattle.boards.specs.Answers.{told, telling, toldAt, toldOf};
-ghost use Rattle.grid.specs.Tallied.{Tallied};
+ghost use Rattle.tallies.specs.Tallied.{Tallied};
 use boards::types::Step;
 use boards::types::Transfer;
-use cube::types::Choice;
-use grid::counts::Tallies;
-use grid::counts::parts_of;
-use grid::counts::tallies_of;
-use grid::counts::transfer_count;
-use grid::counts::walk_count;
+use choices::types::Choice;
 use grid::places::board_of;
 use grid::places::cells_with;
 use grid::places::lead_labels;
 use planner::types::Plan;
+use tallies::counts::Tallies;
+use tallies::counts::parts_of;
+use tallies::counts::tallies_of;
+use tallies::counts::transfer_count;
+use tallies::counts::walk_count;
 
 // The transfer at a position among those of a choice whose last summed axis is at place d.
 pub fn sending(plan: Plan, choice: Choice, d: usize, at: u64) -> Transfer
@@ -85,15 +85,23 @@ pub fn visit(plan: Plan, choice: Choice, d: usize, n: u64, at: u64, tallies: Tal
     Step::Done
 }
 
-// The step at a position of the whole list, done at its end and past it.
-pub fn step_at(plan: Plan, at: u64) -> Step
-    requires { ⌜ planRefusal plan ≡ 0 ⌝ }
+// The step at a position of the whole list, done at its end and past it, by tallies that can serve many positions.
+pub fn step_by(plan: Plan, tallies: Tallies, at: u64) -> Step
+    requires { ⌜ (planRefusal plan ≡ 0) × (Tallied plan tallies) ⌝ }
     ensures { λ r. ⌜ told r ≡ toldAt (planGrid plan) (steps (planGrid plan)) at ⌝ }
 {
     let root = Choice::full(plan.axes);
     if at == 0 {
         return Step::Expand(root);
     }
-    let tallies = tallies_of(plan);
     walk(plan, root, 0, 1, at - 1, tallies)
+}
+
+// The same for one position.
+pub fn step_at(plan: Plan, at: u64) -> Step
+    requires { ⌜ planRefusal plan ≡ 0 ⌝ }
+    ensures { λ r. ⌜ told r ≡ toldAt (planGrid plan) (steps (planGrid plan)) at ⌝ }
+{
+    let tallies = tallies_of(plan);
+    step_by(plan, tallies, at)
 }

@@ -1,2 +1,2 @@
-// The planner's order and division.
+// The planner's division of its order.
 pub mod rule;

@@ -8,10 +8,10 @@ ghost use Rattle.planner.specs.Refusals.{planRefusal};
 ghost use Rattle.boards.specs.Grids.{boardWith, box};
 ghost use Rattle.boards.specs.Finding.{planGrid, summedIn, Labels};
 ghost use Rattle.memory.specs.Copies.{keptAlong, cellStride};
-use cube::types::Choice;
-use grid::portions::kept_portion;
-use grid::portions::portion_start;
+use choices::types::Choice;
 use planner::types::Plan;
+use portions::kept_portion;
+use portions::portion_start;
 
 // The length of an axis by its number, and 1 where the choice sums it out.
 pub fn kept_length(plan: Plan, choice: Choice, a: usize) -> u64

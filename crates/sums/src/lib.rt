@@ -1,2 +1,2 @@
 // Sums over points of the array.
-pub mod boxes;
+pub mod summing;

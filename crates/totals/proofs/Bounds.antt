@@ -11,7 +11,7 @@ use mir.Val.{SFits}
 use mir.Syntax.{w32}
 use Rattle.cube.proofs.Sums.{by}
 use Rattle.memory.specs.Memory.{read}
-use Rattle.totals.specs.Standing.{Small}
+use Rattle.grouping.specs.Grouped.{Small}
 
 pub within : (z : ℤ) → SFits w32 z → natAbs z ≤ 2 ^ 31
 within (pos n) f = let s = f .sfits in omega arith

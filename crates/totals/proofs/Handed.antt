@@ -22,16 +22,17 @@ use Rattle.report.specs.Text.{text}
 use Rattle.report.specs.Printed as Printed
 use Rattle.report.specs.Printed.{planLine, dimLine, dimLines, groupLine, groupLines, endLine, refusedLine, report, reportOr, programRefusal, printedLines, lineAt, joined, printed}
 use Rattle.campaigns.specs.Judging.{judging}
-use Rattle.totals.specs.Standing.{campaignOf, Small, Stands}
-use Rattle.totals.proofs.Lined.{begins, lines-few}
+use Rattle.handing.specs.Standing.{campaignOf, Stands}
+use Rattle.grouping.specs.Grouped.{Small}
+use Rattle.handing.proofs.Lined.{begins, lines-few}
 use Rattle.campaigns.proofs.judging.judge as judge
 use Rattle.campaigns.proofs.judging.judge.Reads as judge-reads
 use Rattle.totals.proofs.loading.load as load
 use Rattle.totals.proofs.loading.load.Reads as load-reads
 use Rattle.totals.proofs.loading.bounded as bounded
 use Rattle.totals.proofs.loading.bounded.Reads as bounded-reads
-use Rattle.totals.proofs.handing.next_line.{signature, ended}
-use Rattle.totals.proofs.handing.next_line.Reads as reads
+use Rattle.handing.proofs.next_line.{signature, ended}
+use Rattle.handing.proofs.next_line.Reads as reads
 
 -- ---- every line of a report has bytes
 

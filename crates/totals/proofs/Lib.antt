@@ -1,5 +1,2 @@
 pub mod Bounds
-pub mod Counted
-pub mod Turning
-pub mod Lined
 pub mod Handed

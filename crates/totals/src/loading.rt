@@ -4,10 +4,11 @@ ghost use Prim.Native.Nat.{_≤_};
 ghost use lib.ListN.{length, take};
 ghost use Rattle.campaigns.specs.Judging.{judging};
 ghost use Rattle.tape.specs.Reading.{reading};
-ghost use Rattle.totals.specs.Standing.{Small, campaignOf};
-use engine::refusals::points_of;
+ghost use Rattle.handing.specs.Standing.{campaignOf};
+ghost use Rattle.grouping.specs.Grouped.{Small};
 use planner::types::Planned;
 use reader::fill;
+use refusals::points_of;
 
 // Reads every point, which fits its type.
 pub fn bounded(points: &[i32])

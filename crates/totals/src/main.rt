@@ -1,9 +1,8 @@
 // The program: reads a tape on standard input, plans, runs, and prints the report on standard output.
-mod groups;
-mod handing;
 mod loading;
+mod writing;
 
-use handing::print;
+use writing::print;
 
 // A tape is at most 65,536 bytes: one more is read to tell.
 fn main() {

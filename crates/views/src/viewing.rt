@@ -2,58 +2,18 @@
 ghost use mathlib.Core.Path.{_≡_};
 ghost use Prim.Native.Nat.{ℕ, _≤_};
 ghost use lib.ListN.{length};
-ghost use Rattle.planner.specs.Refusals.{planRefusal};
-ghost use Rattle.boards.specs.Finding.{planGrid};
-ghost use Rattle.boards.specs.Answers.{told};
-ghost use mathlib.Core.Bool.{not};
-ghost use Rattle.boards.specs.Held.{finishedAt};
-ghost use Rattle.memory.specs.Entries.{isNone, viewRefusal, viewing};
-ghost use Rattle.memory.specs.Taking.{toldBefore};
+ghost use Rattle.memory.specs.Entries.{viewRefusal, viewing};
 use boards::types::Step;
 use checks::plan_refusal;
-use engine::refusals::area_of;
-use grid::counts::steps_of;
+use finishes::is_finished;
+use finishes::step_before;
 use grid::places::cells_of;
 use grid::places::is_lead;
 use grid::places::next_of;
 use grid::places::region_at;
 use planner::types::Plan;
-use rack::steps::step_at;
-
-// The step that leads to a position.
-pub fn step_before(plan: Plan, at: u64) -> Step
-    requires { ⌜ planRefusal plan ≡ 0 ⌝ }
-    ensures { λ r. ⌜ told r ≡ toldBefore (planGrid plan) at ⌝ }
-{
-    if at == 0 {
-        return Step::Done;
-    }
-    step_at(plan, at - 1)
-}
-
-// Does the position follow a finish?
-pub fn is_finished(plan: Plan, at: u64) -> bool
-    requires { ⌜ planRefusal plan ≡ 0 ⌝ }
-    ensures { λ r. ⌜ r ≡ not (isNone (finishedAt (planGrid plan) at)) ⌝ }
-{
-    match step_before(plan, at) {
-        Step::Finish(_) => {
-            return true;
-        }
-        Step::Expand(_) => {
-            return false;
-        }
-        Step::Transfer(_) => {
-            return false;
-        }
-        Step::Done => {
-            return false;
-        }
-        Step::Refused(_) => {
-            return false;
-        }
-    }
-}
+use refusals::area_of;
+use tallies::counts::steps_of;
 
 // 3 to 6, 8, 9, 11, 12, as the entry beside `view`.
 pub fn view_refusal(plan: Plan, work: &[i64], position: u64, board: u32) -> u8

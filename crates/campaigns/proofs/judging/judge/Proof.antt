@@ -5,10 +5,10 @@ use Rattle.campaigns.proofs.judging.judge.Tie as tie
 use Rattle.campaigns.proofs.judging.judge.Reads as reads
 use Rattle.campaigns.proofs.judging.judge.Lts as lts
 use Rattle.campaigns.proofs.judging.plan_first.Reads as plan-first-reads
-use Rattle.engine.proofs.refusals.area_of.Reads as area-of-reads
-use Rattle.engine.proofs.refusals.points_of.Reads as points-of-reads
+use Rattle.refusals.proofs.area_of.Reads as area-of-reads
+use Rattle.refusals.proofs.points_of.Reads as points-of-reads
 use Rattle.planning.proofs.planning.refused.Reads as refused-reads
-use Rattle.reader.proofs.scan.Reads as scan-reads
+use Rattle.scanner.proofs.scan.Reads as scan-reads
 
 -- src/judging.rt:26:9
 scan-requires : tie.Need-scan-requires

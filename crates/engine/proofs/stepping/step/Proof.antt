@@ -1,96 +1,37 @@
-use native.Mathlib.Omega.{arith}
-use Rattle.planner.proofs.Accepting.{passed-accepted}
-use Prim.Native.Nat.{ℕ, _+_}
-use mathlib.Core.Path.{_≡_, sym, ap, _∙_}
-use Rattle.boards.specs.Finding.{planGrid, summedIn}
-use Rattle.boards.specs.Steps.{expand, transfer, finish}
-use Rattle.boards.specs.Answers.{told}
-use Rattle.boards.proofs.Tallied.{lawful}
-use Rattle.boards.proofs.Told.{expand-told, transfer-told, finish-told, done-told, never-refused}
-use Rattle.memory.proofs.Stepped.{passed, steps-few, refused-out, taken-out, done-out, taking, transfer-free, finish-free}
+use mathlib.Core.Path.{sym, _∙_}
+use Rattle.memory.proofs.Stepped.{passed, refused-out}
 use borrow.Author.Needs.{needs}
 use Rattle.engine.proofs.stepping.step.Statement.{statement}
 use Rattle.engine.proofs.stepping.step.Tie as tie
+use Rattle.engine.proofs.stepping.step.Reads as reads
+use Rattle.engine.proofs.stepping.step.Lts as lts
+use Rattle.refusals.proofs.step_refusal.Reads as step-refusal-reads
+use Rattle.taking.proofs.take.Reads as take-reads
+use Rattle.tallies.proofs.counts.tallies_of.Reads as tallies-of-reads
 
--- src/stepping.rt:17:9
+-- src/stepping.rt:15:9
 step-refusal-requires : tie.Need-step-refusal-requires
 step-refusal-requires c κs = search needs
 
--- src/stepping.rt:19:9
+-- src/stepping.rt:17:9
 returns : tie.Need-returns
 returns c = let s = c .before .before .before in refused-out (s .args .plan) (s .args .array .now) (s .args .work .now) (s .args .position .now) (c .before .step-refusal .result) (c .before .step-refusal .ensures) (c .if1 .taken)
 
--- src/stepping.rt:21:11
-step-at-requires : tie.Need-step-at-requires
-step-at-requires c κs = let s = c .before .before .before in let z = sym (c .before .step-refusal .ensures) ∙ c .if1 .left in let p = passed (s .args .plan) _ _ _ z in p .plan
+-- src/stepping.rt:19:9
+tallies-of-requires : tie.Need-tallies-of-requires
+tallies-of-requires c κs = let s = c .before .before .before in let p = passed (s .args .plan) _ _ _ (sym (c .before .step-refusal .ensures) ∙ c .if1 .left) in p .plan
 
--- src/stepping.rt:22:22
-enum-known-choice : tie.Need-enum-known-choice
-enum-known-choice c = search needs
+-- src/stepping.rt:20:5
+take-requires : tie.Need-take-requires
+take-requires c κs = search needs
 
--- src/stepping.rt:23:13
-expand-all-requires : tie.Need-expand-all-requires
-expand-all-requires c κs = let s = c .before .before .before .before .before .before .before .before in let z = sym (c .before .before .before .before .before .before .step-refusal .ensures) ∙ c .before .before .before .before .before .if1 .left in let p = passed (s .args .plan) _ _ _ z in let gd = s .good .0 .1 .1 .1 .1 in let ok = passed-accepted (s .args .plan) (gd .0 .1 .0 .1) (gd .1 .0 .1 .0 .1) (gd .1 .1 .0 .1 .0 .1) (p .plan) in let law = lawful (s .args .plan) ok in let t = ap told (sym (c .before .before .choice .given .1)) ∙ c .before .before .before .before .step-at .ensures in let e = expand-told (planGrid (s .args .plan)) law (s .args .position .now) _ t in (taking (s .args .plan) (s .args .array .now) (s .args .work .now) (s .args .position .now) _ p (e .0), p .all)
-
--- src/stepping.rt:24:25
-add-position : tie.Need-add-position
-add-position c = let s = c .before .before .before .before .before .before .before .before .before .before in let z = sym (c .before .before .before .before .before .before .before .before .step-refusal .ensures) ∙ c .before .before .before .before .before .before .before .if1 .left in let p = passed (s .args .plan) _ _ _ z in let gd = s .good .0 .1 .1 .1 .1 in let ok = passed-accepted (s .args .plan) (gd .0 .1 .0 .1) (gd .1 .0 .1 .0 .1) (gd .1 .1 .0 .1 .0 .1) (p .plan) in let law = lawful (s .args .plan) ok in let f = steps-few (s .args .plan) ok in let w = p .within in omega arith
-
--- src/stepping.rt:25:13
+-- src/stepping.rt:12:1
 same-length : tie.Need-same-length
 same-length c = search needs
 
--- src/stepping.rt:25:13
+-- src/stepping.rt:12:1
 returns-2 : tie.Need-returns-2
-returns-2 c = let s = c .before .before .before .before .before .before .before .before .before .before in let z = sym (c .before .before .before .before .before .before .before .before .step-refusal .ensures) ∙ c .before .before .before .before .before .before .before .if1 .left in let p = passed (s .args .plan) _ _ _ z in let gd = s .good .0 .1 .1 .1 .1 in let ok = passed-accepted (s .args .plan) (gd .0 .1 .0 .1) (gd .1 .0 .1 .0 .1) (gd .1 .1 .0 .1 .0 .1) (p .plan) in let law = lawful (s .args .plan) ok in let t = ap told (sym (c .before .before .before .before .choice .given .1)) ∙ c .before .before .before .before .before .before .step-at .ensures in let e = expand-told (planGrid (s .args .plan)) law (s .args .position .now) _ t in taken-out (s .args .plan) (s .args .array .now) (s .args .work .now) (s .args .position .now) z _ _ _ (e .0) t (c .before .expand-all .ensures)
-
--- src/stepping.rt:27:24
-enum-known-t : tie.Need-enum-known-t
-enum-known-t c = search needs
-
--- src/stepping.rt:28:13
-move-cells-requires : tie.Need-move-cells-requires
-move-cells-requires c κs = let s = c .before .before .before .before .before .before .before .before in let z = sym (c .before .before .before .before .before .before .step-refusal .ensures) ∙ c .before .before .before .before .before .if1 .left in let p = passed (s .args .plan) _ _ _ z in let gd = s .good .0 .1 .1 .1 .1 in let ok = passed-accepted (s .args .plan) (gd .0 .1 .0 .1) (gd .1 .0 .1 .0 .1) (gd .1 .1 .0 .1 .0 .1) (p .plan) in let law = lawful (s .args .plan) ok in let t = ap told (sym (c .before .before .t .given .1)) ∙ c .before .before .before .before .step-at .ensures in let e = transfer-told (planGrid (s .args .plan)) law (s .args .position .now) _ _ _ _ t in taking (s .args .plan) (s .args .array .now) (s .args .work .now) (s .args .position .now) _ p (e .0)
-
--- src/stepping.rt:29:25
-add-position-2 : tie.Need-add-position-2
-add-position-2 c = let s = c .before .before .before .before .before .before .before .before .before .before in let z = sym (c .before .before .before .before .before .before .before .before .step-refusal .ensures) ∙ c .before .before .before .before .before .before .before .if1 .left in let p = passed (s .args .plan) _ _ _ z in let gd = s .good .0 .1 .1 .1 .1 in let ok = passed-accepted (s .args .plan) (gd .0 .1 .0 .1) (gd .1 .0 .1 .0 .1) (gd .1 .1 .0 .1 .0 .1) (p .plan) in let law = lawful (s .args .plan) ok in let f = steps-few (s .args .plan) ok in let w = p .within in omega arith
-
--- src/stepping.rt:30:13
-same-length-2 : tie.Need-same-length-2
-same-length-2 c = search needs
-
--- src/stepping.rt:30:13
-returns-3 : tie.Need-returns-3
-returns-3 c = let s = c .before .before .before .before .before .before .before .before .before .before in let z = sym (c .before .before .before .before .before .before .before .before .step-refusal .ensures) ∙ c .before .before .before .before .before .before .before .if1 .left in let p = passed (s .args .plan) _ _ _ z in let gd = s .good .0 .1 .1 .1 .1 in let ok = passed-accepted (s .args .plan) (gd .0 .1 .0 .1) (gd .1 .0 .1 .0 .1) (gd .1 .1 .0 .1 .0 .1) (p .plan) in let law = lawful (s .args .plan) ok in let t = ap told (sym (c .before .before .before .before .t .given .1)) ∙ c .before .before .before .before .before .before .step-at .ensures in let e = transfer-told (planGrid (s .args .plan)) law (s .args .position .now) _ _ _ _ t in taken-out (s .args .plan) (s .args .array .now) (s .args .work .now) (s .args .position .now) z _ _ _ (e .0) t (c .before .move-cells .ensures ∙ transfer-free (planGrid (s .args .plan)) _ (s .args .array .now) (s .args .work .now) _ _ _ _)
-
--- src/stepping.rt:32:22
-enum-known-choice-2 : tie.Need-enum-known-choice-2
-enum-known-choice-2 c = search needs
-
--- src/stepping.rt:33:25
-add-position-3 : tie.Need-add-position-3
-add-position-3 c = let s = c .before .before .before .before .before .before .before in let z = sym (c .before .before .before .before .before .step-refusal .ensures) ∙ c .before .before .before .before .if1 .left in let p = passed (s .args .plan) _ _ _ z in let gd = s .good .0 .1 .1 .1 .1 in let ok = passed-accepted (s .args .plan) (gd .0 .1 .0 .1) (gd .1 .0 .1 .0 .1) (gd .1 .1 .0 .1 .0 .1) (p .plan) in let law = lawful (s .args .plan) ok in let f = steps-few (s .args .plan) ok in let w = p .within in omega arith
-
--- src/stepping.rt:34:13
-returns-4 : tie.Need-returns-4
-returns-4 c = let s = c .before .before .before .before .before .before .before in let z = sym (c .before .before .before .before .before .step-refusal .ensures) ∙ c .before .before .before .before .if1 .left in let p = passed (s .args .plan) _ _ _ z in let gd = s .good .0 .1 .1 .1 .1 in let ok = passed-accepted (s .args .plan) (gd .0 .1 .0 .1) (gd .1 .0 .1 .0 .1) (gd .1 .1 .0 .1 .0 .1) (p .plan) in let law = lawful (s .args .plan) ok in let t = ap told (sym (c .before .choice2 .given .1)) ∙ c .before .before .before .step-at .ensures in let e = finish-told (planGrid (s .args .plan)) law (s .args .position .now) _ t in taken-out (s .args .plan) (s .args .array .now) (s .args .work .now) (s .args .position .now) z _ _ _ (e .0) t (finish-free (planGrid (s .args .plan)) (s .args .array .now) (s .args .work .now) _)
-
--- src/stepping.rt:37:13
-enum-told : tie.Need-enum-told
-enum-told c = search needs
-
--- src/stepping.rt:37:13
-returns-5 : tie.Need-returns-5
-returns-5 c = let s = c .before .before .before .before .before .before in let z = sym (c .before .before .before .before .step-refusal .ensures) ∙ c .before .before .before .if1 .left in let p = passed (s .args .plan) _ _ _ z in let gd = s .good .0 .1 .1 .1 .1 in let ok = passed-accepted (s .args .plan) (gd .0 .1 .0 .1) (gd .1 .0 .1 .0 .1) (gd .1 .1 .0 .1 .0 .1) (p .plan) in let law = lawful (s .args .plan) ok in let t = ap told (sym (c .enum-told .given .1)) ∙ c .before .before .step-at .ensures in done-out (s .args .plan) (s .args .array .now) (s .args .work .now) (s .args .position .now) z (done-told (planGrid (s .args .plan)) law (s .args .position .now) 0 t)
-
--- src/stepping.rt:39:23
-enum-known-n : tie.Need-enum-known-n
-enum-known-n c = search needs
-
--- src/stepping.rt:40:13
-returns-6 : tie.Need-returns-6
-returns-6 c = let s = c .before .before .before .before .before .before .before in let z = sym (c .before .before .before .before .before .step-refusal .ensures) ∙ c .before .before .before .before .if1 .left in let p = passed (s .args .plan) _ _ _ z in let gd = s .good .0 .1 .1 .1 .1 in let ok = passed-accepted (s .args .plan) (gd .0 .1 .0 .1) (gd .1 .0 .1 .0 .1) (gd .1 .1 .0 .1 .0 .1) (p .plan) in let law = lawful (s .args .plan) ok in let t = ap told (sym (c .before .n .given .1)) ∙ c .before .before .before .step-at .ensures in absurd (never-refused (planGrid (s .args .plan)) law (s .args .position .now) 0 _ t)
+returns-2 c = search needs
 
 pub step-spec : {M : Type 1} → statement M
 step-spec =
@@ -98,21 +39,7 @@ step-spec =
     (tie.spec
     step-refusal-requires
     returns
-    step-at-requires
-    enum-known-choice
-    expand-all-requires
-    add-position
+    tallies-of-requires
+    take-requires
     same-length
-    returns-2
-    enum-known-t
-    move-cells-requires
-    add-position-2
-    same-length-2
-    returns-3
-    enum-known-choice-2
-    add-position-3
-    returns-4
-    enum-told
-    returns-5
-    enum-known-n
-    returns-6)
+    returns-2)

@@ -10,13 +10,13 @@ use Rattle.planner.proofs.PricingLaws.{few-axes, order-fits}
 use Rattle.boards.specs.Finding.{planGrid, summedIn, Labels}
 use Rattle.boards.proofs.Planned.{CellsTo, cells-begin, cells-turn, cells-end}
 use Rattle.boards.proofs.Tallied.{exponent-small}
-use Rattle.grid.proofs.Portioned.{kept-here, label-here}
+use Rattle.portions.proofs.Portioned.{kept-here, label-here}
 use Rattle.grid.proofs.places.cells_between.Statement.{statement}
 use Rattle.grid.proofs.places.cells_between.Tie as tie
 use Rattle.grid.proofs.places.cells_between.Reads as reads
 use Rattle.grid.proofs.places.cells_between.Lts as lts
-use Rattle.cube.proofs.types.Choice.keeps.Reads as keeps-reads
-use Rattle.grid.proofs.portions.kept_portion.Reads as kept-portion-reads
+use Rattle.choices.proofs.types.Choice.keeps.Reads as keeps-reads
+use Rattle.portions.proofs.kept_portion.Reads as kept-portion-reads
 
 abbrev Inv-loop : tie.InvT-loop
 Inv-loop choice first end plan labels count₀ d₀ count d = (Accepted plan) × (Labels plan labels) × (first ≤ d) × (d ≤ end) × (end ≤ plan .axes) × CellsTo plan (choice .mask) labels first count d

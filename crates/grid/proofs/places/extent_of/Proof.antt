@@ -5,13 +5,13 @@ use Rattle.planner.proofs.Accepting.{passed-accepted}
 use Rattle.planner.proofs.PricingLaws.{few-axes, order-fits}
 use Rattle.boards.proofs.Tallied.{parts-small, exponent-small}
 use Rattle.boards.proofs.Planned.{start-small}
-use Rattle.grid.proofs.Portioned.{start-here}
+use Rattle.portions.proofs.Portioned.{start-here}
 use borrow.Author.Needs.{needs}
 use Rattle.grid.proofs.places.extent_of.Statement.{statement}
 use Rattle.grid.proofs.places.extent_of.Tie as tie
 use Rattle.grid.proofs.places.extent_of.Reads as reads
 use Rattle.grid.proofs.places.extent_of.Lts as lts
-use Rattle.grid.proofs.portions.portion_of.Reads as portion-of-reads
+use Rattle.portions.proofs.portion_of.Reads as portion-of-reads
 
 -- src/places.rt:25:16
 element-copy-out-axis : tie.Need-element-copy-out-axis

@@ -13,7 +13,7 @@ use Rattle.grid.proofs.places.is_lead.Statement.{statement}
 use Rattle.grid.proofs.places.is_lead.Tie as tie
 use Rattle.grid.proofs.places.is_lead.Reads as reads
 use Rattle.grid.proofs.places.is_lead.Lts as lts
-use Rattle.grid.proofs.counts.parts_of.Reads as parts-of-reads
+use Rattle.tallies.proofs.counts.parts_of.Reads as parts-of-reads
 use Rattle.grid.proofs.places.lead_may.Reads as lead-may-reads
 
 abbrev Inv-loop : tie.InvT-loop

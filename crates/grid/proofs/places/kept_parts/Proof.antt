@@ -10,8 +10,8 @@ use Rattle.grid.proofs.places.kept_parts.Statement.{statement}
 use Rattle.grid.proofs.places.kept_parts.Tie as tie
 use Rattle.grid.proofs.places.kept_parts.Reads as reads
 use Rattle.grid.proofs.places.kept_parts.Lts as lts
-use Rattle.cube.proofs.types.Choice.keeps.Reads as keeps-reads
-use Rattle.grid.proofs.counts.parts_of.Reads as parts-of-reads
+use Rattle.choices.proofs.types.Choice.keeps.Reads as keeps-reads
+use Rattle.tallies.proofs.counts.parts_of.Reads as parts-of-reads
 
 -- src/places.rt:74:21
 element-copy-out-keeps : tie.Need-element-copy-out-keeps

@@ -19,7 +19,7 @@ use Rattle.grid.proofs.places.lead_labels.Statement.{statement}
 use Rattle.grid.proofs.places.lead_labels.Tie as tie
 use Rattle.grid.proofs.places.lead_labels.Reads as reads
 use Rattle.grid.proofs.places.lead_labels.Lts as lts
-use Rattle.cube.proofs.types.Choice.keeps.Reads as keeps-reads
+use Rattle.choices.proofs.types.Choice.keeps.Reads as keeps-reads
 
 abbrev Inv-loop : tie.InvT-loop
 Inv-loop choice rank plan labels₀ rest₀ d₀ labels rest d = (Accepted plan) × (d ≤ plan .axes) × (length labels ≡ 8) × Ranking plan (choice .mask) rank labels rest d

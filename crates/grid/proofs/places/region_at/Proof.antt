@@ -10,7 +10,7 @@ use Rattle.grid.proofs.places.region_at.Statement.{statement}
 use Rattle.grid.proofs.places.region_at.Tie as tie
 use Rattle.grid.proofs.places.region_at.Reads as reads
 use Rattle.grid.proofs.places.region_at.Lts as lts
-use Rattle.prices.proofs.pricing.region_of.Reads as region-of-reads
+use Rattle.regions.proofs.region_of.Reads as region-of-reads
 
 -- src/places.rt:183:9
 region-of-requires : tie.Need-region-of-requires

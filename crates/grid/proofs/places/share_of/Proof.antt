@@ -6,7 +6,7 @@ use Rattle.grid.proofs.places.share_of.Statement.{statement}
 use Rattle.grid.proofs.places.share_of.Tie as tie
 use Rattle.grid.proofs.places.share_of.Reads as reads
 use Rattle.grid.proofs.places.share_of.Lts as lts
-use Rattle.prices.proofs.pricing.region_of.Reads as region-of-reads
+use Rattle.regions.proofs.region_of.Reads as region-of-reads
 
 -- src/places.rt:174:9
 region-of-requires : tie.Need-region-of-requires

@@ -12,11 +12,11 @@ use borrow.Fn.PlainCycle.{Measures, is, falls, and}
 use Rattle.holds.proofs.holds.held_walk.Reads as held-walk
 use Rattle.holds.proofs.holds.held_walk.Kinds as held-walk-kinds
 use Rattle.holds.proofs.holds.+held_walk.Lts-held_walk as held-walk-lts
-use Rattle.grid.proofs.counts.parts_of.Reads as parts-of-reads
-use Rattle.grid.proofs.counts.transfer_count.Reads as transfer-count-reads
-use Rattle.grid.proofs.counts.walk_count.Reads as walk-count-reads
+use Rattle.tallies.proofs.counts.parts_of.Reads as parts-of-reads
+use Rattle.tallies.proofs.counts.transfer_count.Reads as transfer-count-reads
+use Rattle.tallies.proofs.counts.walk_count.Reads as walk-count-reads
 use Rattle.holds.proofs.holds.own_of.Reads as own-of-reads
-use Rattle.cube.proofs.types.Choice.without.Reads as without-reads
+use Rattle.choices.proofs.types.Choice.without.Reads as without-reads
 use Rattle.holds.proofs.holds.+held_walk.{statement}
 use Rattle.holds.proofs.holds.+held_walk.Tie.{close}
 

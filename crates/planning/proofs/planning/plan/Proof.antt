@@ -10,8 +10,8 @@ use Rattle.planning.proofs.planning.planning_refusal.Reads as planning-
 use Rattle.planning.proofs.planning.refused.Reads as refused-reads
 use Rattle.prices.proofs.pricing.prices.Reads as prices-reads
 use Rattle.rules.proofs.rule.arrange.Reads as arrange-reads
-use Rattle.rules.proofs.rule.by_axis.Reads as by-axis-reads
-use Rattle.rules.proofs.rule.slots.Reads as slots-reads
+use Rattle.orders.proofs.by_axis.Reads as by-axis-reads
+use Rattle.orders.proofs.slots.Reads as slots-reads
 
 -- src/planning.rt:70:9
 refused-requires : tie.Need-refused-requires

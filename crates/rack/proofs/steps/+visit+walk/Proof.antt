@@ -13,11 +13,11 @@ use Rattle.rack.proofs.steps.+visit+walk.Lts-visit as visit-lts
 use Rattle.rack.proofs.steps.walk.Reads as walk
 use Rattle.rack.proofs.steps.walk.Kinds as walk-kinds
 use Rattle.rack.proofs.steps.+visit+walk.Lts-walk as walk-lts
-use Rattle.grid.proofs.counts.parts_of.Reads as parts-of-reads
-use Rattle.grid.proofs.counts.transfer_count.Reads as transfer-count-reads
-use Rattle.grid.proofs.counts.walk_count.Reads as walk-count-reads
+use Rattle.tallies.proofs.counts.parts_of.Reads as parts-of-reads
+use Rattle.tallies.proofs.counts.transfer_count.Reads as transfer-count-reads
+use Rattle.tallies.proofs.counts.walk_count.Reads as walk-count-reads
 use Rattle.rack.proofs.steps.sending.Reads as sending-reads
-use Rattle.cube.proofs.types.Choice.without.Reads as without-reads
+use Rattle.choices.proofs.types.Choice.without.Reads as without-reads
 use Rattle.rack.proofs.steps.+visit+walk.{statement}
 use Rattle.rack.proofs.steps.+visit+walk.Tie.{close}
 

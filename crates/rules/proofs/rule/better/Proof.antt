@@ -20,27 +20,27 @@ module _ (w l k least : ℕ) (low : k ≤ 10) where
   no : l < 1 * 2 ^ (k + 1) % 18446744073709551616 → leb (1 * 2 ^ (k + 1) % 18446744073709551616) l ≡ (free (entry w l k) && leb (price (entry w l k)) least)
   no h = let f : free (entry w l k) ≡ false = free-room w l k low ∙ lt-leb _ _ h in rw (f, lt-leb _ _ h)
 
--- src/rule.rt:140:25
+-- src/rule.rt:58:25
 add-room : tie.Need-add-room
 add-room c = search needs
 
--- src/rule.rt:140:25
+-- src/rule.rt:58:25
 cast-room : tie.Need-cast-room
 cast-room c = search needs
 
--- src/rule.rt:140:16
+-- src/rule.rt:58:16
 shl-room : tie.Need-shl-room
 shl-room c = search needs
 
--- src/rule.rt:141:27
+-- src/rule.rt:59:27
 cost-requires : tie.Need-cost-requires
 cost-requires c κs = c .before .pre
 
--- src/rule.rt:136:1
+-- src/rule.rt:54:1
 returns : tie.Need-returns
 returns c = let s = c .before .before in yes (s .args .weight) (s .args .len) (s .args .k) (s .args .least) (s .pre .1) (c .before .if1 .taken) (c .cost .result) (c .cost .ensures)
 
--- src/rule.rt:136:1
+-- src/rule.rt:54:1
 returns-2 : tie.Need-returns-2
 returns-2 c = let s = c .before in no (s .args .weight) (s .args .len) (s .args .k) (s .args .least) (s .pre .1) (c .if1 .left)
 

@@ -34,59 +34,59 @@ Inv-loop n weights lens exps best₀ least₀ i₀ best least i = (i ≤ n) × (
 abbrev μ-loop : tie.MeasureT-loop
 μ-loop n weights lens exps best₀ least₀ i₀ best least i = i
 
--- src/rule.rt:152:5
+-- src/rule.rt:70:5
 loop-holds : tie.Need-loop-holds Inv-loop μ-loop
 loop-holds c = let q = turn-none (entryAt (c .args .t1) (c .args .t2) (c .args .t3)) (c .args .n) in (le-refl _, c .pre .few, q .0, q .1)
 
--- src/rule.rt:153:9
+-- src/rule.rt:71:9
 sub-i : tie.Need-sub-i Inv-loop μ-loop
 sub-i c = c .loop-test .taken
 
--- src/rule.rt:154:17
+-- src/rule.rt:72:17
 mul-w : tie.Need-mul-w Inv-loop μ-loop
 mul-w c = fits-eights (last-below (c .loop-test .taken) (c .before .loop .inv .0) (c .before .loop .inv .1))
 
--- src/rule.rt:154:17
+-- src/rule.rt:72:17
 array-read-w : tie.Need-array-read-w Inv-loop μ-loop
 array-read-w c = last-below (c .loop-test .taken) (c .before .loop .inv .0) (c .before .loop .inv .1)
 
--- src/rule.rt:155:17
+-- src/rule.rt:73:17
 array-read-k : tie.Need-array-read-k Inv-loop μ-loop
 array-read-k c = last-below (c .loop-test .taken) (c .before .loop .inv .0) (c .before .loop .inv .1)
 
--- src/rule.rt:156:22
+-- src/rule.rt:74:22
 mul-better : tie.Need-mul-better Inv-loop μ-loop
 mul-better c = fits-fours (last-below (c .loop-test .taken) (c .before .loop .inv .0) (c .before .loop .inv .1))
 
--- src/rule.rt:156:22
+-- src/rule.rt:74:22
 array-read-better : tie.Need-array-read-better Inv-loop μ-loop
 array-read-better c = last-below (c .loop-test .taken) (c .before .loop .inv .0) (c .before .loop .inv .1)
 
--- src/rule.rt:156:12
+-- src/rule.rt:74:12
 better-requires : tie.Need-better-requires Inv-loop μ-loop
 better-requires c κs = let p = c .before .before .pre in let h = last-lt (c .loop-test .taken) (c .before .loop .inv .0) in (p .light _ h, p .low _ h)
 
--- src/rule.rt:158:13
+-- src/rule.rt:76:13
 cost-requires : tie.Need-cost-requires Inv-loop μ-loop
 cost-requires c κs = let s = c .before .before .before in let h = last-lt (c .before .before .loop-test .taken) (s .loop .inv .0) in (s .before .pre .light _ h, s .before .pre .low _ h)
 
--- src/rule.rt:152:5
+-- src/rule.rt:70:5
 loop-less : tie.Need-loop-less Inv-loop μ-loop
 loop-less c = last-less (c .before .before .before .loop-test .taken)
 
--- src/rule.rt:152:5
+-- src/rule.rt:70:5
 loop-again : tie.Need-loop-again Inv-loop μ-loop
 loop-again c = let s = c .before .before .before .before in let v = s .loop .inv in let a = s .before .args in let q = taken (a .t1) (a .t2) (a .t3) (a .n) (s .loop .i) (s .loop .least) (c .before .before .before .loop-test .taken) (v .0) (v .3) (c .before .before .better .result) (c .before .before .better .ensures) (c .before .if1 .taken) (c .cost .result) (c .cost .ensures) in (last-le (v .0), v .1, q .0, q .1)
 
--- src/rule.rt:152:5
+-- src/rule.rt:70:5
 loop-less-2 : tie.Need-loop-less-2 Inv-loop μ-loop
 loop-less-2 c = last-less (c .before .before .loop-test .taken)
 
--- src/rule.rt:152:5
+-- src/rule.rt:70:5
 loop-again-2 : tie.Need-loop-again-2 Inv-loop μ-loop
 loop-again-2 c = let s = c .before .before .before in let v = s .loop .inv in let a = s .before .args in let q = passed (a .t1) (a .t2) (a .t3) (a .n) (s .loop .i) (s .loop .least) (c .before .before .loop-test .taken) (v .0) (v .3) (c .before .better .result) (c .before .better .ensures) (c .if1 .left) (s .before .pre) (s .loop .best) (v .2) in (last-le (v .0), v .1, q .0, q .1)
 
--- src/rule.rt:145:1
+-- src/rule.rt:63:1
 returns : tie.Need-returns Inv-loop μ-loop
 returns c = let s = c .before in let a = s .before .args in every (entryAt (a .t1) (a .t2) (a .t3)) (a .n) (s .loop .i) (s .loop .best) (c .loop-test .left) (s .loop .inv .2)
 

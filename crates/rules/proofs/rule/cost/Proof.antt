@@ -19,15 +19,15 @@ shifted k low = let h : 2 ^ k ≤ 2 ^ 10 = pow-mono {i = k} {j = 10} low in let 
 fits-cost : (w k : ℕ) → w ≤ 2 ^ 32 → k ≤ 10 → Fits w64 (w * (1 * 2 ^ k % 18446744073709551616))
 fits-cost w k light low = let h : 2 ^ k ≤ 2 ^ 10 = pow-mono {i = k} {j = 10} low in let q = mul-le-mul light h in rw (shifted k low) (omega arith)
 
--- src/rule.rt:132:15
+-- src/rule.rt:50:15
 shl-result : tie.Need-shl-result
 shl-result c = shifts (c .pre .1)
 
--- src/rule.rt:132:5
+-- src/rule.rt:50:5
 mul-result : tie.Need-mul-result
 mul-result c = fits-cost (c .args .weight) (c .args .k) (c .pre .0) (c .pre .1)
 
--- src/rule.rt:128:1
+-- src/rule.rt:46:1
 returns : tie.Need-returns
 returns c = ap (λ x. c .args .weight * x) (shifted (c .args .k) (c .pre .1))
 

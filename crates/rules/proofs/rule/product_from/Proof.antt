@@ -20,35 +20,35 @@ Inv-loop n i lens r₀ j₀ r j = (i ≤ j) × (j ≤ n) × (n ≤ 8) × (r * pr
 abbrev μ-loop : tie.MeasureT-loop
 μ-loop n i lens r₀ j₀ r j = n - j
 
--- src/rule.rt:103:5
+-- src/rule.rt:21:5
 loop-holds : tie.Need-loop-holds Inv-loop μ-loop
 loop-holds c = (le-refl _, c .pre .1, c .pre .0 .few, one-mul _)
 
--- src/rule.rt:104:18
+-- src/rule.rt:22:18
 mul-r : tie.Need-mul-r Inv-loop μ-loop
 mul-r c = fits-fours (slot-below (c .loop-test .taken) (c .before .loop .inv .2))
 
--- src/rule.rt:104:18
+-- src/rule.rt:22:18
 array-read-r : tie.Need-array-read-r Inv-loop μ-loop
 array-read-r c = slot-below (c .loop-test .taken) (c .before .loop .inv .2)
 
--- src/rule.rt:104:18
+-- src/rule.rt:22:18
 cast-r : tie.Need-cast-r Inv-loop μ-loop
 cast-r c = fits-length (c .before .before .pre .0 .short _ (c .loop-test .taken))
 
--- src/rule.rt:104:13
+-- src/rule.rt:22:13
 mul-r-2 : tie.Need-mul-r-2 Inv-loop μ-loop
 mul-r-2 c = let s = c .before in let v = s .loop .inv in fits-points _ (from-small (λ d. getD (s .before .args .t1) d 0) (s .before .args .n) (s .before .pre .0) (s .before .args .i) (s .loop .j) (s .loop .r) (v .0) (c .loop-test .taken) (v .3))
 
--- src/rule.rt:105:9
+-- src/rule.rt:23:9
 add-j : tie.Need-add-j Inv-loop μ-loop
 add-j c = fits-next (slot-below (c .loop-test .taken) (c .before .loop .inv .2))
 
--- src/rule.rt:103:5
+-- src/rule.rt:21:5
 loop-less : tie.Need-loop-less Inv-loop μ-loop
 loop-less c = turn-less (c .loop-test .taken)
 
--- src/rule.rt:103:5
+-- src/rule.rt:21:5
 loop-again : tie.Need-loop-again Inv-loop μ-loop
 loop-again c = let s = c .before in let v = s .loop .inv in (later-le (v .0), next-le (c .loop-test .taken), v .2, from-next (λ d. getD (s .before .args .t1) d 0) (s .before .args .n) (s .before .pre .0) (s .before .args .i) (s .loop .j) (s .loop .r) (v .0) (c .loop-test .taken) (v .3))
 

@@ -38,63 +38,63 @@ Inv-loop n lens out₀ before₀ i₀ out before i = (i ≤ n) × (n ≤ 8) × (
 abbrev μ-loop : tie.MeasureT-loop
 μ-loop n lens out₀ before₀ i₀ out before i = n - i
 
--- src/rule.rt:118:5
+-- src/rule.rt:36:5
 loop-holds : tie.Need-loop-holds Inv-loop μ-loop
 loop-holds c = (zero-le, c .pre .few, unfold product in refl, unfold padded tableFrom in refl)
 
--- src/rule.rt:119:43
+-- src/rule.rt:37:43
 add-product-from : tie.Need-add-product-from Inv-loop μ-loop
 add-product-from c = fits-next (slot-below (c .loop-test .taken) (c .before .loop .inv .1))
 
--- src/rule.rt:119:13
+-- src/rule.rt:37:13
 product-from-requires : tie.Need-product-from-requires Inv-loop μ-loop
 product-from-requires c κs = (c .before .before .pre, next-le (c .loop-test .taken))
 
--- src/rule.rt:120:18
+-- src/rule.rt:38:18
 mul-out : tie.Need-mul-out Inv-loop μ-loop
 mul-out c = let s = c .before .before in fits-weight (s .before .args .t1) (s .before .args .n) (s .loop .i) (s .loop .before) (s .before .pre) (c .before .loop-test .taken) (s .loop .inv .2) (c .product-from .result) (c .product-from .ensures)
 
--- src/rule.rt:120:9
+-- src/rule.rt:38:9
 mul-out-2 : tie.Need-mul-out-2 Inv-loop μ-loop
 mul-out-2 c = fits-eights (slot-below (c .before .loop-test .taken) (c .before .before .loop .inv .1))
 
--- src/rule.rt:120:9
+-- src/rule.rt:38:9
 array-write-out : tie.Need-array-write-out Inv-loop μ-loop
 array-write-out c = slot-below (c .before .loop-test .taken) (c .before .before .loop .inv .1)
 
--- src/rule.rt:121:28
+-- src/rule.rt:39:28
 mul-before : tie.Need-mul-before Inv-loop μ-loop
 mul-before c = fits-fours (slot-below (c .before .loop-test .taken) (c .before .before .loop .inv .1))
 
--- src/rule.rt:121:28
+-- src/rule.rt:39:28
 array-read-before : tie.Need-array-read-before Inv-loop μ-loop
 array-read-before c = slot-below (c .before .loop-test .taken) (c .before .before .loop .inv .1)
 
--- src/rule.rt:121:28
+-- src/rule.rt:39:28
 cast-before : tie.Need-cast-before Inv-loop μ-loop
 cast-before c = fits-length (c .before .before .before .pre .short _ (c .before .loop-test .taken))
 
--- src/rule.rt:121:28
+-- src/rule.rt:39:28
 add-before : tie.Need-add-before Inv-loop μ-loop
 add-before c = let s = c .before .before in omega (arith, s .before .pre .short (s .loop .i) (c .before .loop-test .taken))
 
--- src/rule.rt:121:18
+-- src/rule.rt:39:18
 mul-before-2 : tie.Need-mul-before-2 Inv-loop μ-loop
 mul-before-2 c = let s = c .before .before in fits-before (s .before .args .t1) (s .before .args .n) (s .loop .i) (s .loop .before) (s .before .pre) (c .before .loop-test .taken) (s .loop .inv .2) _ (omega arith)
 
--- src/rule.rt:122:9
+-- src/rule.rt:40:9
 add-i : tie.Need-add-i Inv-loop μ-loop
 add-i c = fits-next (slot-below (c .before .loop-test .taken) (c .before .before .loop .inv .1))
 
--- src/rule.rt:118:5
+-- src/rule.rt:36:5
 loop-less : tie.Need-loop-less Inv-loop μ-loop
 loop-less c = turn-less (c .before .loop-test .taken)
 
--- src/rule.rt:118:5
+-- src/rule.rt:36:5
 loop-again : tie.Need-loop-again Inv-loop μ-loop
 loop-again c = let s = c .before .before in let v = s .loop .inv in let l = s .before .args .t1 in let n = s .before .args .n in let h = c .before .loop-test .taken in (next-le h, v .1, before-next l n (s .loop .i) (s .loop .before) (s .before .pre) h (v .2), filled (weight n (λ d. getD l d 0)) (s .loop .out) (s .loop .i) _ (slot-below h (v .1)) (weighed l n (s .loop .i) (s .loop .before) (s .before .pre) h (v .2) (c .product-from .result) (c .product-from .ensures)) (v .3))
 
--- src/rule.rt:111:1
+-- src/rule.rt:29:1
 returns : tie.Need-returns Inv-loop μ-loop
 returns c = let s = c .before in let v = s .loop .inv in all-filled (weight (s .before .args .n) (λ d. getD (s .before .args .t1) d 0)) (s .loop .out) (s .before .args .n) (s .loop .i) (v .0) (c .loop-test .left) (v .3)
 

@@ -10,13 +10,13 @@ use Rattle.boards.specs.Grids.{boardWith, box}
 use Rattle.boards.specs.Finding.{planGrid, summedIn, Labels}
 use Rattle.memory.proofs.Strided.{extent-with}
 use Rattle.boards.proofs.Tallied.{exponent-small}
-use Rattle.grid.proofs.Portioned.{kept-here, label-here}
+use Rattle.portions.proofs.Portioned.{kept-here, label-here}
 use Rattle.strides.proofs.points.extents_of.Statement.{statement}
 use Rattle.strides.proofs.points.extents_of.Tie as tie
 use Rattle.strides.proofs.points.extents_of.Reads as reads
 use Rattle.strides.proofs.points.extents_of.Lts as lts
-use Rattle.cube.proofs.types.Choice.keeps.Reads as keeps-reads
-use Rattle.grid.proofs.portions.kept_portion.Reads as kept-portion-reads
+use Rattle.choices.proofs.types.Choice.keeps.Reads as keeps-reads
+use Rattle.portions.proofs.kept_portion.Reads as kept-portion-reads
 
 abbrev Inv-loop : tie.InvT-loop
 Inv-loop choice plan labels extents₀ d₀ extents d = (Accepted plan) × (Labels plan labels) × (d ≤ plan .axes) × (length extents ≡ 8) × ((i : ℕ) → i < d → getD extents i 0 ≡ box (planGrid plan) (summedIn plan (choice .mask)) (boardWith (planGrid plan) (λ i. getD labels i 0)) i)

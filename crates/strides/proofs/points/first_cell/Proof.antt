@@ -13,13 +13,13 @@ use Rattle.planner.proofs.PricingLaws.{few-axes, order-fits}
 use Rattle.boards.specs.Finding.{planGrid, Labels}
 use Rattle.boards.proofs.Tallied.{exponent-small}
 use Rattle.boards.proofs.Planned.{start-small}
-use Rattle.grid.proofs.Portioned.{start-here, label-here}
+use Rattle.portions.proofs.Portioned.{start-here, label-here}
 use Rattle.memory.proofs.Strided.{stride-small, term-fits}
 use Rattle.strides.proofs.points.first_cell.Statement.{statement}
 use Rattle.strides.proofs.points.first_cell.Tie as tie
 use Rattle.strides.proofs.points.first_cell.Reads as reads
 use Rattle.strides.proofs.points.first_cell.Lts as lts
-use Rattle.grid.proofs.portions.portion_start.Reads as portion-start-reads
+use Rattle.portions.proofs.portion_start.Reads as portion-start-reads
 
 sum-last : (f : ℕ → ℕ) (d : ℕ) → sumN (d + 1) f ≡ sumN d f + f d
 sum-last f d = ap (λ n. sumN n f) (add-one d) ∙ (unfold sumN in refl)

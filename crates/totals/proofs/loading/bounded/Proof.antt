@@ -18,27 +18,27 @@ Inv-loop points i₀ i = (i ≤ length points) × ((j : ℕ) → j < i → natAb
 abbrev μ-loop : tie.MeasureT-loop
 μ-loop points i₀ i = length points - i
 
--- src/loading.rt:16:5
+-- src/loading.rt:17:5
 loop-holds : tie.Need-loop-holds Inv-loop μ-loop
 loop-holds c = (omega arith, λ j h. absurd (omega arith))
 
--- src/loading.rt:17:22
+-- src/loading.rt:18:22
 mul--point : tie.Need-mul--point Inv-loop μ-loop
 mul--point c = search needs
 
--- src/loading.rt:17:22
+-- src/loading.rt:18:22
 shared-slice-copy-out--point : tie.Need-shared-slice-copy-out--point Inv-loop μ-loop
 shared-slice-copy-out--point c = search needs
 
--- src/loading.rt:18:9
+-- src/loading.rt:19:9
 add-i : tie.Need-add-i Inv-loop μ-loop
 add-i c = search needs
 
--- src/loading.rt:16:5
+-- src/loading.rt:17:5
 loop-less : tie.Need-loop-less Inv-loop μ-loop
 loop-less c = search needs
 
--- src/loading.rt:16:5
+-- src/loading.rt:17:5
 loop-again : tie.Need-loop-again Inv-loop μ-loop
 loop-again c = (omega (arith, c .before .loop-test .taken), bounded-more (c .before .before .before .args .points .now) (c .before .before .loop .i) (c .before .before .loop .inv .1) (within (read (c .before .before .before .args .points .now) (c .before .before .loop .i)) (record { sfits = c .-point .given })))
 

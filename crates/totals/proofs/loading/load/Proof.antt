@@ -6,29 +6,29 @@ use Rattle.totals.proofs.loading.load.Statement.{statement}
 use Rattle.totals.proofs.loading.load.Tie as tie
 use Rattle.totals.proofs.loading.load.Reads as reads
 use Rattle.totals.proofs.loading.load.Lts as lts
-use Rattle.engine.proofs.refusals.points_of.Reads as points-of-reads
+use Rattle.refusals.proofs.points_of.Reads as points-of-reads
 use Rattle.reader.proofs.fill.Reads as fill-reads
 
--- src/loading.rt:28:9
+-- src/loading.rt:29:9
 returns : tie.Need-returns
 returns c = (omega arith, λ z. absurd (c .if1 .taken z), λ h. (refl, refl))
 
--- src/loading.rt:30:5
+-- src/loading.rt:31:5
 fill-requires : tie.Need-fill-requires
 fill-requires c κs = search needs
 
--- src/loading.rt:31:5
+-- src/loading.rt:32:5
 points-of-requires : tie.Need-points-of-requires
 points-of-requires c κs =
     let x = c .before .before .before in
     let s = x .before .before .before in
     plan-passed (s .args .tape .now) (s .args .judged) (s .pre .0) (x .if1 .left)
 
--- src/loading.rt:23:1
+-- src/loading.rt:24:1
 same-length : tie.Need-same-length
 same-length c = search needs
 
--- src/loading.rt:23:1
+-- src/loading.rt:24:1
 returns-2 : tie.Need-returns-2
 returns-2 c =
     let f = c .before .before in

@@ -1,0 +1,2 @@
+// Choices as callers hold them.
+pub mod types;

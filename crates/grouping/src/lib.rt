@@ -1,0 +1,2 @@
+// A run taken from one finish to the next.
+pub mod groups;

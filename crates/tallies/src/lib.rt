@@ -1,0 +1,2 @@
+// How many steps a plan has, and the tallies over its axes.
+pub mod counts;
