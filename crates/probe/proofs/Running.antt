@@ -14,10 +14,10 @@ use Rattle.planner.specs.Refusals.{planChecks, lengthChecks}
 use Rattle.boards.proofs.Refusing.{Numbered}
 use Rattle.boards.specs.Answers.{Told}
 use Rattle.memory.specs.Entries.{outcome, stepping, viewChecks, viewRefusal, viewing, gatherRefusal, gathering}
-use Rattle.probe.specs.Probing.{writtenOr}
-use Rattle.probe.specs.Racks.{lentRefusal, cellsTold}
+use Rattle.slices.specs.Probing.{writtenOr}
+use Rattle.slices.specs.Racks.{lentRefusal, cellsTold}
 use Rattle.probe.specs.Runs.{ran, ranOr, running, showRefusal, showing}
-use Rattle.probe.proofs.Racking as racking
+use Rattle.slices.proofs.Racking as racking
 
 -- ---- copies
 

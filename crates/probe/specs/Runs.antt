@@ -5,8 +5,8 @@ use lib.ListN.{length}
 use lib.IntN.{ℤ}
 use Rattle.planner.specs.declared.types.Plan.{Plan}
 use Rattle.memory.specs.Entries.{Outcome, stepping, viewChecks, viewing}
-use Rattle.probe.specs.Probing.{writtenOr}
-use Rattle.probe.specs.Racks.{lentRefusal, cellsTold}
+use Rattle.slices.specs.Probing.{writtenOr}
+use Rattle.slices.specs.Racks.{lentRefusal, cellsTold}
 
 -- ---- step: a plan, an array, a work area, a position, and a slice for what is told
 

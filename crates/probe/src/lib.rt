@@ -4,19 +4,9 @@ pub mod runs;
 
 ghost use mathlib.Core.Path.{_≡_};
 ghost use lib.ListN.{length};
-ghost use lib.Seq.{sets};
 ghost use Rattle.tape.specs.Reading.{readingRefusal, reading};
-ghost use Rattle.probe.specs.Probing.{probeRefusal, probed, cells};
-
-// Puts the lengths in the cells from 3 on.
-fn put(out: &mut [u64], lengths: [u32; 8])
-    requires { ⌜ length (now out) ≡ cells ⌝ }
-    ensures { λ _. ⌜ now (out .exit) ≡ sets (now (out .entry)) 3 lengths ⌝ }
-{
-    for i in 0..8 {
-        out[3 + i] = lengths[i] as u64;
-    }
-}
+ghost use Rattle.slices.specs.Probing.{probeRefusal, probed};
+use slices::put;
 
 // Scans a tape: the answer is 0 or the refusal, and a slice of eleven cells gets the axes, p, the points and eight lengths.
 #[no_mangle]

@@ -2,12 +2,12 @@
 ghost use mathlib.Core.Path.{_≡_};
 ghost use lib.ListN.{length};
 ghost use Rattle.memory.specs.Entries.{gatherRefusal, gathering};
-ghost use Rattle.probe.specs.Racks.{planFrom};
+ghost use Rattle.slices.specs.Racks.{planFrom};
 ghost use Rattle.probe.specs.Runs.{ran, running, showRefusal, showing};
-use crate::racks::plan_from;
-use crate::racks::put_step;
 use engine::stepping::step;
 use gathers::copying::gather;
+use slices::plan_from;
+use slices::put_step;
 use views::viewing::view;
 use views::viewing::view_refusal;
 

@@ -3,7 +3,7 @@ use mathlib.Core.Path.{ap, sym, _∙_}
 use borrow.Author.Needs.{needs}
 use Rattle.boards.specs.Answers.{heldReply}
 use Rattle.boards.specs.declared.types.Held.{Held}
-use Rattle.probe.proofs.Racking as racking
+use Rattle.slices.proofs.Racking as racking
 use Rattle.probe.proofs.racks.rack_held.Tie as tie
 use Rattle.probe.proofs.racks.rack_held.Statement.{statement}
 

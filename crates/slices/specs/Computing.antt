@@ -1,7 +1,7 @@
 -- Names every definition, so that a fact that computes with them says `unfolding computing`.
 use Prim.Native.Nat.{ℕ}
-use Rattle.probe.specs.Probing
-use Rattle.probe.specs.Racks
+use Rattle.slices.specs.Probing
+use Rattle.slices.specs.Racks
 use Rattle.tape.specs.Computing as tape
 use Rattle.boards.specs.Computing as boards
 

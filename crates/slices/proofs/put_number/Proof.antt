@@ -1,8 +1,8 @@
--- `probe::racks::put_number` meets its contract.
+-- `slices::put_number` meets its contract.
 use borrow.Author.Needs.{needs}
-use Rattle.probe.proofs.Racking as racking
-use Rattle.probe.proofs.racks.put_number.Tie as tie
-use Rattle.probe.proofs.racks.put_number.Statement.{statement}
+use Rattle.slices.proofs.Racking as racking
+use Rattle.slices.proofs.put_number.Tie as tie
+use Rattle.slices.proofs.put_number.Statement.{statement}
 
 returns : tie.Need-returns
 returns c = let s = c .before in racking.wrong 1 (s .args .out .now) _ (c .if1 .taken)

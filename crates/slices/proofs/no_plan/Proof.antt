@@ -1,10 +1,10 @@
--- `probe::racks::no_plan` meets its contract.
+-- `slices::no_plan` meets its contract.
 use mathlib.Core.Path.{refl}
 use Rattle.cube.specs.Limits.{padded}
 use Rattle.planner.specs.Plans.{slotted}
-use Rattle.probe.specs.Racks.{noPlan}
-use Rattle.probe.proofs.racks.no_plan.Tie as tie
-use Rattle.probe.proofs.racks.no_plan.Statement.{statement}
+use Rattle.slices.specs.Racks.{noPlan}
+use Rattle.slices.proofs.no_plan.Tie as tie
+use Rattle.slices.proofs.no_plan.Statement.{statement}
 
 returns : tie.Need-returns
 unfolding noPlan slotted padded

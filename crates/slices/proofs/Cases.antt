@@ -4,8 +4,8 @@ use mathlib.Core.Path.{_≡_, refl}
 use mathlib.Core.List.{List, [], _∷_, _++_}
 use lib.ListN.{replicate}
 use Rattle.planner.specs.declared.types.Plan.{Plan}
-use Rattle.probe.specs.Computing.{computing}
-use Rattle.probe.specs.Racks.{planFrom, countRefusal, stepRefusal, holdRefusal, counted, stepped, held}
+use Rattle.slices.specs.Computing.{computing}
+use Rattle.slices.specs.Racks.{planFrom, countRefusal, stepRefusal, holdRefusal, counted, stepped, held}
 
 -- two axes, p, the order and the exponents in eight slots each; the lengths in eight slots
 abbrev slots : ℕ → ℕ → List ℕ

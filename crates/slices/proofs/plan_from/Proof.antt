@@ -1,9 +1,9 @@
--- `probe::racks::plan_from` meets its contract.
+-- `slices::plan_from` meets its contract.
 use mathlib.Core.Path.{_∙_}
 use borrow.Author.Needs.{needs}
-use Rattle.probe.proofs.Racking as racking
-use Rattle.probe.proofs.racks.plan_from.Tie as tie
-use Rattle.probe.proofs.racks.plan_from.Statement.{statement}
+use Rattle.slices.proofs.Racking as racking
+use Rattle.slices.proofs.plan_from.Tie as tie
+use Rattle.slices.proofs.plan_from.Statement.{statement}
 
 no-plan-requires : tie.Need-no-plan-requires
 no-plan-requires c κs = search needs

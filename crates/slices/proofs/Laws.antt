@@ -14,7 +14,7 @@ use Rattle.tape.specs.Reading.{scanning}
 use Rattle.tape.proofs.Scanning.{slots-of}
 use Rattle.tape.proofs.Filling.{joined}
 use Rattle.tape.proofs.Refusing.{scan-first, scan-passed}
-use Rattle.probe.specs.Probing.{cells, cellsOf, probeRefusal, writtenOr, probed}
+use Rattle.slices.specs.Probing.{cells, cellsOf, probeRefusal, writtenOr, probed}
 
 -- ---- cells
 

@@ -13,7 +13,7 @@ use Rattle.boards.specs.Steps.{steps}
 use Rattle.boards.specs.Held as Held
 use Rattle.boards.specs.Finding.{planGrid}
 use Rattle.boards.specs.Answers.{Told, expands, transfers, finishes, done, refused, toldAt, heldChecks}
-use Rattle.probe.specs.Probing.{writtenOr}
+use Rattle.slices.specs.Probing.{writtenOr}
 
 -- ---- the plan
 

@@ -17,9 +17,9 @@ use Rattle.boards.proofs.Refusing.{Numbered, plan-numbered, first-due, first-pa
 use Rattle.boards.specs.Held as Held
 use Rattle.boards.specs.Finding.{planGrid}
 use Rattle.boards.specs.Answers.{Told, toldAt, heldChecks, heldRefusal, holding, counting}
-use Rattle.probe.specs.Probing.{writtenOr}
-use Rattle.probe.specs.Racks.{noPlan, planFrom, lentRefusal, countRefusal, stepRefusal, holdRefusal, cellsTold, counted, stepped, held}
-use Rattle.probe.proofs.Laws.{one-more, left-alone}
+use Rattle.slices.specs.Probing.{writtenOr}
+use Rattle.slices.specs.Racks.{noPlan, planFrom, lentRefusal, countRefusal, stepRefusal, holdRefusal, cellsTold, counted, stepped, held}
+use Rattle.slices.proofs.Laws.{one-more, left-alone}
 
 -- ---- copies
 

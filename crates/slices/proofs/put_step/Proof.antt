@@ -1,9 +1,9 @@
--- `probe::racks::put_step` meets its contract.
+-- `slices::put_step` meets its contract.
 use mathlib.Core.Path.{_∙_}
 use borrow.Author.Needs.{needs}
-use Rattle.probe.proofs.Racking as racking
-use Rattle.probe.proofs.racks.put_step.Tie as tie
-use Rattle.probe.proofs.racks.put_step.Statement.{statement}
+use Rattle.slices.proofs.Racking as racking
+use Rattle.slices.proofs.put_step.Tie as tie
+use Rattle.slices.proofs.put_step.Statement.{statement}
 
 returns : tie.Need-returns
 returns c = let s = c .before .before in racking.wrong 5 (s .args .out .now) _ (c .if1 .taken)

@@ -1,11 +1,11 @@
--- `probe::racks::cells_of` meets its contract.
+-- `slices::cells_of` meets its contract.
 use mathlib.Core.Path.{ap, sym}
 use borrow.Author.Needs.{needs}
 use Rattle.boards.specs.Answers.{told}
 use Rattle.boards.specs.declared.types.Step.{Step}
-use Rattle.probe.specs.Racks.{cellsTold}
-use Rattle.probe.proofs.racks.cells_of.Tie as tie
-use Rattle.probe.proofs.racks.cells_of.Statement.{statement}
+use Rattle.slices.specs.Racks.{cellsTold}
+use Rattle.slices.proofs.cells_of.Tie as tie
+use Rattle.slices.proofs.cells_of.Statement.{statement}
 
 enum-known-step : tie.Need-enum-known-step
 enum-known-step c = search needs

@@ -1,0 +1,3 @@
+pub mod Probing
+pub mod Racks
+pub mod Computing
