@@ -10,6 +10,8 @@ use lib.Dec.{leb, ltb}
 use lib.ListN.{length, getD}
 use lib.IntN.{ℤ, pos}
 use Rattle.cube.specs.Boxes.{pick, sumZ, product, table}
+use Rattle.cube.specs.Limits.{pointLimit}
+use Rattle.cube.specs.Tree as Tree
 use Rattle.cube.specs.Tree.{has, next}
 use Rattle.cube.proofs.Sums.{by, sum-cong}
 use Rattle.cube.proofs.Naturals.{both}
@@ -18,17 +20,18 @@ use Rattle.cube.proofs.Products.{product-append, product-next}
 use Rattle.cube.proofs.Sets.{Down, down-out, has-head, kept-has, kept-out, kept-other}
 use Rattle.planner.specs.declared.types.Plan.{Plan}
 use Rattle.planner.specs.Accepted.{Accepted}
-use Rattle.boards.specs.Grids.{Grid, Lawful, summedBy, summed, boards, boardWith, label, extent, box, cells, regionSize, regionStart, share, index}
+use Rattle.planner.proofs.PricingLaws.{few-axes}
+use Rattle.boards.specs.Grids.{Grid, Lawful, summedBy, summed, boards, boardWith, extent, box, cells, regionSize, regionStart, share, index}
 use Rattle.boards.specs.Finding.{planGrid, summedIn}
 use Rattle.boards.proofs.Boards.{start-next, starts-rise, cells-fit}
 use Rattle.boards.proofs.Around.{inner}
 use Rattle.boards.proofs.Tallied.{axes-same}
-use Rattle.boards.proofs.Planned.{inner-from, set-down, own-board}
+use Rattle.boards.proofs.Planned.{inner-from, set-down, own-board, first-cell}
 use Rattle.cells.specs.Rows.{from, written, axisSums}
 use Rattle.cells.specs.Wrapped.{wrapped}
 use Rattle.cells.proofs.Writing.{written-table}
 use Rattle.memory.specs.Memory.{read, formed}
-use Rattle.memory.specs.Expansions.{oneChild, Forms}
+use Rattle.memory.specs.Expansions.{oneChild, Forms, Own, Regioned}
 use Rattle.memory.proofs.Gathering.{table-same}
 use Rattle.memory.proofs.Ranges.{child-range, formed-loop}
 use Rattle.memory.proofs.Refusing.{area-boards}
@@ -146,7 +149,7 @@ module _ {q : Plan} (ok : Accepted q) {mask b j n : ℕ} (f : Forms q mask b j n
   pub room-in : boards (planGrid q) * share (planGrid q) ≤ n
   room-in = rw (area-boards q ok) at (f .room)
 
-  module _ (labels : List ℕ) (own : (d : ℕ) → d < q .axes → getD labels d 0 ≡ label (planGrid q) b d) where
+  module _ (labels : List ℕ) (own : Own q b labels) where
     pub outer-is : (r : ℕ) → r ≡ product (box (planGrid q) (summedIn q mask) (boardWith (planGrid q) (λ d. getD labels d 0))) (j - 0) 0 → r ≡ product (box (planGrid q) (summedIn q mask) b) j 0
     outer-is r e = e ∙ ap₂ (λ b m. product (box (planGrid q) (summedIn q mask) b) m 0) (own-board q ok b (f .board) labels own) (sub-zero j)
 
@@ -156,3 +159,19 @@ module _ {q : Plan} (ok : Accepted q) {mask b j n : ℕ} (f : Forms q mask b j n
     pub extent-is : (r : ℕ) → r ≡ planGrid q .start j (suc (getD labels j 0)) - planGrid q .start j (getD labels j 0) → r ≡ extent (planGrid q) b j
     unfolding extent
     extent-is r e = e ∙ ap (λ l. planGrid q .start j (suc l) - planGrid q .start j l) (own j (f .inside))
+
+-- regions by what is kept of them
+module _ {q : Plan} (ok : Accepted q) {A : ℕ} {starts : List ℕ} (r : Regioned q A starts) (i : ℕ) (h : i < q .axes) where
+  pub region-small : (A ≤ pointLimit * 8) × (i < 8) × (getD starts i 0 ≤ pointLimit * 8)
+  region-small =
+      let x = axes-same q ok in
+      let e = r .each i h in
+      let w = r .whole in
+      let f = few-axes ok in
+      let s : share (planGrid q) ≡ regionStart (planGrid q) (planGrid q .axes) = (unfold share regionStart Tree.shareSize in refl) in
+      let u = starts-rise (planGrid q) i (planGrid q .axes) (omega arith) in
+      let m = r .most in
+      (m, omega arith, omega arith)
+
+  pub region-is : (b n : ℕ) → n ≡ b * A + getD starts i 0 → n ≡ index (planGrid q) b i 0
+  region-is b n e = e ∙ ap₂ (λ a s. b * a + s) (r .whole) (r .each i h) ∙ first-cell (planGrid q) b i

@@ -2,19 +2,24 @@
 use Prim.Native.Nat.{ℕ, _+_, _≤_, _<_}
 use mathlib.Core.Path.{_≡_, sym, _∙_, refl, ap}
 use mathlib.Core.Bool.{Bool, true, false}
-use mathlib.Core.List.{List}
+use mathlib.Core.List.{List, []}
 use native.Mathlib.Omega.{arith}
+use lib.ListN.{getD}
 use Rattle.cube.specs.Boxes.{product, place, position}
 use Rattle.cube.specs.Tree.{has, kept}
 use Rattle.cube.proofs.Boxing.{place-cong, place-lt, place-position, position-place, position-lt}
 use Rattle.cube.proofs.Sets.{Down, down-lt, kept-has, kept-out}
 use Rattle.cube.proofs.Sums.{by}
-use Rattle.boards.specs.Grids.{Grid, Lawful, boards, boardWith, label, lead}
-use Rattle.boards.specs.Finding.{leads, leadLabel, leadAt}
+use Rattle.planner.specs.declared.types.Plan.{Plan}
+use Rattle.planner.specs.Accepted.{Accepted}
+use Rattle.boards.specs.Grids.{Grid, Lawful, summedBy, summed, boards, boardWith, label, lead}
+use Rattle.boards.specs.Finding.{planGrid, summedIn, leads, leadLabel, leadAt, Labels}
 use Rattle.boards.proofs.Boards.{label-lt}
 use Rattle.boards.proofs.Moving.{lead-each, lead-none}
-use Rattle.boards.proofs.Planned.{label-with, board-with, board-labels}
+use Rattle.boards.proofs.Planned.{label-with, board-with, board-labels, set-down}
+use Rattle.boards.proofs.Tallied.{lawful, axes-same}
 use Rattle.memory.specs.Copies.{rankOf}
+use Rattle.memory.specs.Expansions.{Own}
 
 module _ (g : Grid) (ok : Lawful g) (Y : List ℕ) (down : Down Y (g .axes)) where
   -- ---- from a rank to its lead
@@ -31,7 +36,7 @@ module _ (g : Grid) (ok : Lawful g) (Y : List ℕ) (down : Down Y (g .axes)) whe
         (λ t. let e = kept-has (g .parts) Y d t in let s = ok .some d h in omega arith)
         (λ t. let e = kept-out (g .parts) Y d t in omega arith)
 
-    label-at : (d : ℕ) → d < g .axes → label g (leadAt g Y r) d ≡ leadLabel g Y r d
+    pub label-at : (d : ℕ) → d < g .axes → label g (leadAt g Y r) d ≡ leadLabel g Y r d
     unfolding leadAt
     label-at d h = label-with g ok (leadLabel g Y r) in-parts d h
 
@@ -78,3 +83,35 @@ module _ (g : Grid) (ok : Lawful g) (Y : List ℕ) (down : Down Y (g .axes)) whe
     at-rank =
         place-cong (g .axes) 0 (λ i l u. refl) (λ i l u. position-place (g .axes) 0 i (λ j m v. own-kept j (omega arith)) (omega arith) (omega arith))
         ∙ board-labels g b on
+
+-- of the root every board is a lead, and its number is its rank
+root-first : (g : Grid) (b : ℕ) → b < leads g [] → (b < boards g) × (lead g [] b ≡ true) × (leadAt g [] b ≡ b)
+unfolding leads leadAt leadLabel boards kept has label lead
+root-first g b h = (h, refl, board-labels g b h)
+
+pub root-lead : (g : Grid) (Y : List ℕ) (b : ℕ) → Y ≡ [] → b < leads g Y → (b < boards g) × (lead g Y b ≡ true) × (leadAt g Y b ≡ b)
+root-lead g Y b e h = rw e (root-first g b (rw e at h))
+
+-- ---- of a machine's plan
+
+module _ {q : Plan} (ok : Accepted q) (mask r : ℕ) (below : r < leads (planGrid q) (summedIn q mask)) where
+  set : Down (summedIn q mask) (planGrid q .axes)
+  unfolding summed
+  set = set-down (summedBy (planGrid q) mask) (planGrid q .axes)
+
+  pub ranked-inside : leadAt (planGrid q) (summedIn q mask) r < boards (planGrid q)
+  ranked-inside = lead-inside (planGrid q) (lawful q ok) (summedIn q mask) set r below
+
+  pub ranked-lead : lead (planGrid q) (summedIn q mask) (leadAt (planGrid q) (summedIn q mask) r) ≡ true
+  ranked-lead = lead-true (planGrid q) (lawful q ok) (summedIn q mask) set r below
+
+  -- labels that spell the rank are those of the lead
+  module _ (labels : List ℕ) (spelt : (d : ℕ) → d < q .axes → getD labels d 0 ≡ leadLabel (planGrid q) (summedIn q mask) r d) where
+    pub ranked-own : Own q (leadAt (planGrid q) (summedIn q mask) r) labels
+    ranked-own d h = let x = axes-same q ok in spelt d h ∙ sym (label-at (planGrid q) (lawful q ok) (summedIn q mask) set r below d (omega arith))
+
+    pub ranked-labels : Labels q labels
+    ranked-labels d h = let x = axes-same q ok in rw (spelt d h) (in-parts (planGrid q) (lawful q ok) (summedIn q mask) set r below d (omega arith))
+
+    pub ranked-board : boardWith (planGrid q) (λ d. getD labels d 0) ≡ leadAt (planGrid q) (summedIn q mask) r
+    ranked-board = let x = axes-same q ok in lead-of-labels (planGrid q) (lawful q ok) (summedIn q mask) set r below (λ d. getD labels d 0) (λ d h. spelt d (omega arith))

@@ -8,7 +8,7 @@ use native.Mathlib.Numerals.{add-one}
 use native.Mathlib.Omega.{arith}
 use borrow.Author.Tests.{eqb-true, eqb-false}
 use lib.Dec.{eqb}
-use lib.ListN.{length, getD, take, set}
+use lib.ListN.{length, getD, take, set, length-set}
 use lib.Seq.{getD-take, getD-set-same, getD-set-other}
 use Rattle.cube.specs.Limits.{lengthLimit, pointLimit}
 use Rattle.cube.specs.Boxes.{sumN, product}
@@ -21,12 +21,13 @@ use Rattle.cube.proofs.Products.{product-last, product-le}
 use Rattle.planner.specs.Plans.{listsOf}
 use Rattle.planner.specs.declared.types.Plan.{Plan}
 use Rattle.planner.specs.Accepted.{Accepted}
+use Rattle.planner.proofs.PricingLaws.{few-axes}
 use Rattle.boards.specs.Grids.{Grid, gridOf, boards, boardWith, label, extent, box, cells}
 use Rattle.boards.specs.Finding.{planGrid, summedIn, Labels}
 use Rattle.boards.proofs.Tallied.{lawful, axes-same}
-use Rattle.boards.proofs.Planned.{summed-has, order-slot, part-le, label-with, own-board, own-fit, cells-small}
+use Rattle.boards.proofs.Planned.{summed-has, order-slot, part-le, label-with, own-board, cells-small}
 use Rattle.cells.specs.Strides.{boxSize, Mergeable}
-use Rattle.memory.specs.Expansions.{axisLength, stride}
+use Rattle.memory.specs.Expansions.{axisLength, stride, Own, Strides, BoardBox}
 use Rattle.memory.specs.Copies.{keptAlong, cellStride}
 use Rattle.memory.proofs.Loops.{one-cell, same-axis}
 use Rattle.memory.proofs.Rooted.{axis-length, points-in, ChildBox, child-size, child-some}
@@ -35,11 +36,6 @@ use Rattle.memory.proofs.Rooted.{axis-length, points-in, ChildBox, chil
 pub record StrideTo (q : Plan) (mask first count a : ℕ) : Type 0 where
   pub counted : count ≡ product (keptAlong (planGrid q) (summedIn q mask)) (a - first) first
   pub fits : count ≤ pointLimit
-
--- the first cell so far: what the axes up to place d add
-pub record PointTo (q : Plan) (mask : ℕ) (labels : List ℕ) (at d : ℕ) : Type 0 where
-  pub counted : at ≡ sumN d (λ i. planGrid q .start i (getD labels i 0) * cellStride (planGrid q) (summedIn q mask) i)
-  pub fits : at ≤ 1099511627776 * d
 
 pub term-fits : (s t : ℕ) → s ≤ lengthLimit → t ≤ pointLimit → s * t ≤ 1099511627776
 term-fits s t a b = let m = mul-le-mul {n₁ = s} {m₁ = t} {n₂ = 65535} {m₂ = 16777216} a b in omega arith
@@ -127,19 +123,6 @@ module _ (q : Plan) (ok : Accepted q) where
         let o = lawful q ok .order-lt d (omega arith) in
         part-small (planGrid q .axes - (planGrid q .order d + 1)) (planGrid q .order d + 1) (omega arith)
 
-    -- ---- the first cell
-
-    pub point-begin : (labels : List ℕ) → PointTo q mask labels 0 0
-    point-begin labels = record { counted = unfold sumN in refl; fits = omega arith }
-
-    pub point-turn : (labels : List ℕ) (at d s t : ℕ) → PointTo q mask labels at d → s ≡ planGrid q .start d (getD labels d 0) → s ≤ lengthLimit → t ≡ cellStride (planGrid q) (summedIn q mask) d → t ≤ pointLimit → PointTo q mask labels (at + s * t) (d + 1)
-    point-turn labels at d s t p es fs et ft =
-        let m = term-fits s t fs ft in
-        record {
-          counted = ap₂ _+_ (p .counted) (ap₂ _*_ es et) ∙ sym (ap (λ n. sumN n (λ i. planGrid q .start i (getD labels i 0) * cellStride (planGrid q) (summedIn q mask) i)) (add-one d) ∙ (unfold sumN in refl));
-          fits = let f = p .fits in omega arith;
-        }
-
     -- ---- the box of a board
 
     pub extent-with : (labels : List ℕ) → Labels q labels → (d : ℕ) → d < q .axes → kept (summedIn q mask) (λ e. planGrid q .start e (suc (getD labels d 0)) - planGrid q .start e (getD labels d 0)) d ≡ box (planGrid q) (summedIn q mask) (boardWith (planGrid q) (λ i. getD labels i 0)) d
@@ -154,45 +137,58 @@ module _ (q : Plan) (ok : Accepted q) where
   unfolding cellStride stride kept has
   root-stride d = refl
 
+  -- the box of a board, by the labels that it has
+  pub board-box : (mask b : ℕ) → b < boards (planGrid q) → (labels E T : List ℕ) (at : ℕ) → Own q b labels → length E ≡ 8 → ((d : ℕ) → d < q .axes → getD E d 0 ≡ box (planGrid q) (summedIn q mask) (boardWith (planGrid q) (λ i. getD labels i 0)) d) → Strides q mask T → at ≡ sumN (q .axes) (λ d. planGrid q .start d (getD labels d 0) * cellStride (planGrid q) (summedIn q mask) d) → BoardBox q mask b E T at
+  board-box mask b on labels E T at own le es ts p =
+      record {
+        slots = le;
+        extents = λ d h. es d h ∙ ap (λ b. box (planGrid q) (summedIn q mask) b d) (own-board q ok b on labels own);
+        strides = ts;
+        first = p ∙ sumN-cong (q .axes) (λ d h. ap (λ l. planGrid q .start d l * cellStride (planGrid q) (summedIn q mask) d) (own d h));
+      }
+
   -- the box of the root's child that sums out the axis at place j: the root's, with one position on that axis
-  module _ (b : ℕ) (on : b < boards (planGrid q)) (j : ℕ) (inside : j < planGrid q .axes) (Y labels E T : List ℕ) (at : ℕ) (e : Y ≡ []) (own : (d : ℕ) → d < q .axes → getD labels d 0 ≡ label (planGrid q) b d)
-      (es : (d : ℕ) → d < q .axes → getD E d 0 ≡ box (planGrid q) Y (boardWith (planGrid q) (λ i. getD labels i 0)) d)
-      (ts : (d : ℕ) → d < q .axes → getD T d 0 ≡ cellStride (planGrid q) Y d)
-    where
-      root-extent : (d : ℕ) → d < q .axes → getD E d 0 ≡ box (planGrid q) [] b d
-      root-extent d h = es d h ∙ ap (λ Y. box (planGrid q) Y (boardWith (planGrid q) (λ i. getD labels i 0)) d) e ∙ ap (λ b. box (planGrid q) [] b d) (own-board q ok b on labels own)
+  module _ (b : ℕ) (on : b < boards (planGrid q)) (j : ℕ) (inside : j < planGrid q .axes) (mask : ℕ) (e : summedIn q mask ≡ []) {E T : List ℕ} {at : ℕ} (r : BoardBox q mask b E T at) where
+    root-extent : (d : ℕ) → d < q .axes → getD E d 0 ≡ box (planGrid q) [] b d
+    root-extent d h = r .extents d h ∙ ap (λ Y. box (planGrid q) Y b d) e
 
-      pub root-count : getD E j 0 ≡ extent (planGrid q) b j
-      root-count = let x = axes-same q ok in root-extent j (omega arith) ∙ (unfold box kept has in refl)
+    pub root-count : getD E j 0 ≡ extent (planGrid q) b j
+    root-count = let x = axes-same q ok in root-extent j (omega arith) ∙ (unfold box kept has in refl)
 
-      pub root-step : (d : ℕ) → d < planGrid q .axes → getD T d 0 ≡ stride (planGrid q) d
-      root-step d h = let x = axes-same q ok in ts d (omega arith) ∙ ap (λ Y. cellStride (planGrid q) Y d) e ∙ root-stride d
+    pub root-step : (d : ℕ) → d < planGrid q .axes → getD T d 0 ≡ stride (planGrid q) d
+    root-step d h = let x = axes-same q ok in r .strides .1 d (omega arith) ∙ ap (λ Y. cellStride (planGrid q) Y d) e ∙ root-stride d
 
-      pub child-box : j < length E → at ≡ sumN (q .axes) (λ d. planGrid q .start d (getD labels d 0) * cellStride (planGrid q) Y d) → ChildBox (listsOf q) (ok .sound) b on j inside (set E j 1) T at
-      child-box l p =
-          let x = axes-same q ok in
-          record {
-            extents = λ d h. by (eqb d j)
-                (λ t. (let z = eqb-true d j t in rw z (getD-set-same E j 1 0 l ∙ sym (one-cell (planGrid q) [] b j (unfold has in refl) inside))))
-                (λ t. (let z = eqb-false d j t in getD-set-other E j d 1 0 z ∙ root-extent d (omega arith) ∙ sym (same-axis (planGrid q) [] b j (unfold has in refl) inside d z)));
-            strides = root-step;
-            first = p ∙ ap (λ n. sumN n (λ d. planGrid q .start d (getD labels d 0) * cellStride (planGrid q) Y d)) (sym x) ∙ sumN-cong (planGrid q .axes) (λ d h. ap₂ (λ l t. planGrid q .start d l * t) (own d (omega arith)) (ap (λ Y. cellStride (planGrid q) Y d) e ∙ root-stride d));
-          }
+    pub child-box : ChildBox (listsOf q) (ok .sound) b on j inside (set E j 1) T at
+    child-box =
+        let x = axes-same q ok in
+        let f = few-axes ok in
+        let l : j < length E = (let n = r .slots in omega arith) in
+        record {
+          extents = λ d h. by (eqb d j)
+              (λ t. (let z = eqb-true d j t in rw z (getD-set-same E j 1 0 l ∙ sym (one-cell (planGrid q) [] b j (unfold has in refl) inside))))
+              (λ t. (let z = eqb-false d j t in getD-set-other E j d 1 0 z ∙ root-extent d (omega arith) ∙ sym (same-axis (planGrid q) [] b j (unfold has in refl) inside d z)));
+          strides = root-step;
+          first = r .first ∙ ap (λ n. sumN n (λ d. planGrid q .start d (label (planGrid q) b d) * cellStride (planGrid q) (summedIn q mask) d)) (sym x) ∙ sumN-cong (planGrid q .axes) (λ d h. ap (λ t. planGrid q .start d (label (planGrid q) b d) * t) (ap (λ Y. cellStride (planGrid q) Y d) e ∙ root-stride d));
+        }
 
-      pub child-merges : (mask : ℕ) → Y ≡ summedIn q mask → {E′ : List ℕ} → ChildBox (listsOf q) (ok .sound) b on j inside E′ T at → q .axes ≤ length E′ → q .axes ≤ length T → Mergeable E′ T (q .axes)
-      child-merges mask ey {E′} r le lt =
-          let x = axes-same q ok in
-          let c = child-size (listsOf q) (ok .sound) b on j inside r in
-          let z : boxSize E′ (q .axes) 0 ≡ boxSize E′ (planGrid q .axes) 0 = ap (λ n. boxSize E′ n 0) (sym x) in
-          let s = child-some (listsOf q) (ok .sound) b on j inside r in
-          let m : cells (planGrid q) (j ∷ []) b ≤ pointLimit = (unfold cells in rw sub-zero at (cells-small q ok (j ∷ []) b 0 (planGrid q .axes) on (omega arith) (omega arith))) in
-          record {
-            extents = le;
-            strides = lt;
-            some = omega arith;
-            most = omega arith;
-            near = λ i h. rw (ts i h, ey) (stride-small mask i h);
-          }
+    -- both have a slot for each axis
+    pub child-slots : (q .axes ≤ length (set E j 1)) × (q .axes ≤ length T)
+    child-slots = let f = few-axes ok in let l = length-set E j 1 in let e = r .slots in let t = r .strides .0 in (omega arith, omega arith)
+
+    pub child-merges : Mergeable (set E j 1) T (q .axes)
+    child-merges =
+        let x = axes-same q ok in
+        let k = child-size (listsOf q) (ok .sound) b on j inside child-box in
+        let z : boxSize (set E j 1) (q .axes) 0 ≡ boxSize (set E j 1) (planGrid q .axes) 0 = ap (λ n. boxSize (set E j 1) n 0) (sym x) in
+        let s = child-some (listsOf q) (ok .sound) b on j inside child-box in
+        let m : cells (planGrid q) (j ∷ []) b ≤ pointLimit = (unfold cells in rw sub-zero at (cells-small q ok (j ∷ []) b 0 (planGrid q .axes) on (omega arith) (omega arith))) in
+        record {
+          extents = child-slots .0;
+          strides = child-slots .1;
+          some = omega arith;
+          most = omega arith;
+          near = λ i h. rw (r .strides .1 i h) (stride-small mask i h);
+        }
 
 -- a choice with no earlier axis is the root
 pub next-empty : (Y : List ℕ) → next Y ≡ 0 → Y ≡ []

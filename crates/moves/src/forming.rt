@@ -5,37 +5,40 @@ ghost use Prim.Native.Nat.{_<_};
 ghost use lib.ListN.{length};
 ghost use Rattle.cube.specs.Boxes.{table};
 ghost use Rattle.cube.specs.Choices.{points};
-ghost use Rattle.cube.specs.Tree.{next};
+ghost use Rattle.cube.specs.Tree as Tree;
 ghost use Rattle.planner.specs.Plans.{listsOf};
 ghost use Rattle.boards.specs.Finding.{planGrid, summedIn};
 ghost use Rattle.memory.specs.Memory.{read};
-ghost use Rattle.memory.specs.Expansions.{oneChild, Forms};
+ghost use Rattle.memory.specs.Expansions.{oneChild, Forms, Own, Regioned, BoardBox};
+use crate::shares::Regions;
+use crate::shares::region_in;
 use blocks::sum_axis;
 use boxes::merging::merge;
 use choices::types::Choice;
 use grid::places::cells_between;
 use grid::places::extent_of;
-use grid::places::labels_of;
-use grid::places::next_of;
-use grid::places::region_at;
 use planner::types::Plan;
-use strides::points::extents_of;
-use strides::points::first_cell;
-use strides::points::strides_of;
 use sums::summing::sum_box;
 
 // Of a choice whose cells stand in the work area: they are (outer, extent, inner) around the axis at place j, which is summed out.
-pub fn form_cells(plan: Plan, choice: Choice, board: u64, j: usize, work: &mut [i64])
-    requires { ⌜ (Forms plan (choice .mask) board j (length (now work))) × (0 < next (summedIn plan (choice .mask))) ⌝ }
+pub fn form_cells(
+    plan: Plan,
+    choice: Choice,
+    next: usize,
+    regions: Regions,
+    board: u64,
+    labels: [u64; 8],
+    j: usize,
+    work: &mut [i64],
+)
+    requires { ⌜ (Own plan board labels) × (Forms plan (choice .mask) board j (length (now work))) × (next ≡ Tree.next (summedIn plan (choice .mask))) × (0 < next) × (Regioned plan (regions .share) (regions .starts)) ⌝ }
     ensures { λ _. ⌜ now (work .exit) ≡ table (length (now (work .entry))) (oneChild (planGrid plan) (read []) (summedIn plan (choice .mask)) board j (read (now (work .entry)))) ⌝ }
 {
-    let labels = labels_of(plan, board);
     let outer = cells_between(plan, choice, labels, 0, j);
     let extent = extent_of(plan, j, labels[j]);
     let inner = cells_between(plan, choice, labels, j + 1, plan.axes as usize);
-    let next = next_of(plan, choice);
-    let src = region_at(plan, board, next - 1);
-    let dst = region_at(plan, board, j);
+    let src = region_in(regions, board, next - 1);
+    let dst = region_in(regions, board, j);
     sum_axis(
         work,
         src as usize,
@@ -47,31 +50,40 @@ pub fn form_cells(plan: Plan, choice: Choice, board: u64, j: usize, work: &mut [
 }
 
 // Of the root, whose cells are the points of the board's box of the array: a sum's points stand as far apart as neighbours on the axis.
-pub fn form_points(plan: Plan, root: Choice, board: u64, j: usize, array: &[i32], work: &mut [i64])
-    requires { ⌜ (Forms plan (root .mask) board j (length (now work))) × (next (summedIn plan (root .mask)) ≡ 0) × (points (listsOf plan .lengths) ≡ length (now array)) ⌝ }
+pub fn form_points(
+    plan: Plan,
+    root: Choice,
+    regions: Regions,
+    board: u64,
+    extents: [usize; 8],
+    strides: [usize; 8],
+    first: u64,
+    j: usize,
+    array: &[i32],
+    work: &mut [i64],
+)
+    requires { ⌜ (Forms plan (root .mask) board j (length (now work))) × (Tree.next (summedIn plan (root .mask)) ≡ 0) × (points (listsOf plan .lengths) ≡ length (now array)) × (Regioned plan (regions .share) (regions .starts)) × (BoardBox plan (root .mask) board extents strides first) ⌝ }
     ensures { λ _. ⌜ now (work .exit) ≡ table (length (now (work .entry))) (oneChild (planGrid plan) (read (now (array .entry))) (summedIn plan (root .mask)) board j (read (now (work .entry)))) ⌝ }
 {
-    let labels = labels_of(plan, board);
-    let mut extents = extents_of(plan, root, labels);
-    let mut strides = strides_of(plan, root);
-    let first = first_cell(plan, root, strides, labels);
-    let dst = region_at(plan, board, j);
+    let to = region_in(regions, board, j);
     let count = extents[j];
     let step = strides[j];
     // The child's own box has one position on the axis.
-    extents[j] = 1;
+    let mut sides = extents;
+    sides[j] = 1;
+    let mut apart = strides;
     let n = plan.axes as usize;
-    let d = merge(&mut extents, &mut strides, n);
+    let d = merge(&mut sides, &mut apart, n);
     sum_box(
         work,
         array,
-        &extents,
-        &strides,
+        &sides,
+        &apart,
         n - d,
         d,
         first as usize,
         count,
         step,
-        dst as usize,
+        to as usize,
     );
 }

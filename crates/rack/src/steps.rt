@@ -1,7 +1,10 @@
 // The step at a position of a plan's list, found without listing.
 ghost use mathlib.Core.Path.{_≡_};
-ghost use Prim.Native.Nat.{ℕ, _-_};
+ghost use Prim.Native.Nat.{ℕ, _+_, _-_, _*_, _≤_, _<_};
 ghost use Rattle.planner.specs.Refusals.{planRefusal};
+ghost use lib.ListN.{getD};
+ghost use Rattle.cube.specs.Choices.{withoutMask};
+ghost use Rattle.boards.specs.Counts.{walkCount};
 ghost use Rattle.boards.specs.Steps.{visit, walk, steps};
 ghost use Rattle.boards.specs.Finding.{planGrid, summedIn, found, Walking, Sending};
 ghost use Rattle.boards.specs.Answers.{told, telling, toldAt, toldOf};
@@ -14,6 +17,7 @@ use grid::places::cells_with;
 use grid::places::lead_labels;
 use planner::types::Plan;
 use tallies::counts::Tallies;
+use tallies::counts::count_with;
 use tallies::counts::parts_of;
 use tallies::counts::tallies_of;
 use tallies::counts::transfer_count;
@@ -39,26 +43,78 @@ pub fn sending(plan: Plan, choice: Choice, d: usize, at: u64) -> Transfer
     }
 }
 
+// A child of a walk: the choice, the place of the axis that it sums out last, how many labellings the kept axes before it have, and the steps of the later children, which are taken first.
+pub struct Child {
+    pub choice: Choice,
+    pub d: usize,
+    pub n: u64,
+    pub later: u64,
+}
+
+// The child of the walk from place `first` on whose later siblings are done at a position; the place past the last axis if there is none.
+pub fn child_at(
+    plan: Plan,
+    choice: Choice,
+    first: usize,
+    labellings: u64,
+    at: u64,
+    tallies: Tallies,
+) -> Child
+    requires { ⌜ (Walking plan (choice .mask) first labellings) × (Tallied plan tallies) ⌝ }
+    ensures { λ r. ⌜ (Walking plan (choice .mask) (r .d) (r .n)) × (first ≤ r .d)
+        × (toldAt (planGrid plan) (walk (planGrid plan) (plan .axes - r .d) (r .d) (summedIn plan (choice .mask))) at ≡ toldAt (planGrid plan) (walk (planGrid plan) (plan .axes - first) first (summedIn plan (choice .mask))) at)
+        × (r .d < plan .axes → (r .later ≡ walkCount (planGrid plan) (plan .axes - (r .d + 1)) (r .d + 1) (r .n * planGrid plan .parts (r .d))) × (r .later ≤ at) × (r .choice .mask ≡ withoutMask (choice .mask) (getD (plan .order) (r .d) 0))) ⌝ }
+{
+    let mut d = first;
+    let mut n = labellings;
+    while d < plan.axes as usize {
+        let axis = plan.order[d];
+        let more = n * (1u64 << plan.exponents[axis as usize]);
+        let later = count_with(tallies.sent[d + 1], plan.axes as usize - (d + 1), more);
+        if later <= at {
+            let child = choice.without(axis);
+            return Child {
+                choice: child,
+                d,
+                n,
+                later,
+            };
+        }
+        n = more;
+        d += 1;
+    }
+    Child {
+        choice,
+        d,
+        n,
+        later: 0,
+    }
+}
+
 // The step at a position of the walk over the children of a choice from place d on, taken from right to left: the later children, then the transfers
 // of the child that sums out the axis at d, then its visit. The axes before d that the choice keeps have n labellings.
 pub fn walk(plan: Plan, choice: Choice, d: usize, n: u64, at: u64, tallies: Tallies) -> Step
     requires { ⌜ (Walking plan (choice .mask) d n) × (Tallied plan tallies) ⌝ }
     ensures { λ r. ⌜ told r ≡ toldAt (planGrid plan) (walk (planGrid plan) (plan .axes - d) d (summedIn plan (choice .mask))) at ⌝ }
 {
-    if d == plan.axes as usize {
+    let found = child_at(plan, choice, d, n, at, tallies);
+    let e = found.d;
+    if e == plan.axes as usize {
         return Step::Done;
     }
-    let more = n * parts_of(plan, d);
-    let later = walk_count(plan, d + 1, more, tallies);
-    if at < later {
-        return walk(plan, choice, d + 1, more, at, tallies);
+    let child = found.choice;
+    let sent = transfer_count(plan, e, found.n, tallies);
+    if at - found.later < sent {
+        return Step::Transfer(sending(plan, child, e, at - found.later));
     }
-    let child = choice.without(plan.order[d]);
-    let sent = transfer_count(plan, d, n, tallies);
-    if at - later < sent {
-        return Step::Transfer(sending(plan, child, d, at - later));
-    }
-    visit(plan, child, d + 1, n, at - later - sent, tallies)
+    visit(
+        plan,
+        child,
+        e + 1,
+        found.n,
+        at - found.later - sent,
+        tallies,
+    )
 }
 
 // The step at a position of the visit of a choice whose children begin at place d: it is expanded if it has any, and finished after them.

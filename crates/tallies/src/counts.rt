@@ -12,9 +12,10 @@ use checks::plan_refusal;
 use planner::types::Plan;
 
 // At each place up to the number of axes: the ways to label the axes from there on, and the transfers of a walk over them.
+// Narrow, since the search for a step hands them down at every turn.
 pub struct Tallies {
-    pub span: [u64; 9],
-    pub sent: [u64; 9],
+    pub span: [u32; 9],
+    pub sent: [u32; 9],
 }
 
 // Into how many portions the axis at place d is cut.
@@ -31,16 +32,16 @@ pub fn tallies_of(plan: Plan) -> Tallies
     requires { ⌜ planRefusal plan ≡ 0 ⌝ }
     ensures { λ r. ⌜ Tallied plan r ⌝ }
 {
-    let mut span = [1u64; 9];
-    let mut sent = [0u64; 9];
+    let mut span = [1u32; 9];
+    let mut sent = [0u32; 9];
     let mut d = plan.axes as usize;
     while 0 < d {
-        let ways = span[d];
-        let below = sent[d];
+        let ways = span[d] as u64;
+        let below = sent[d] as u64;
         d -= 1;
         let parts = parts_of(plan, d);
-        span[d] = parts * ways;
-        sent[d] = below * (parts + 1) + ways * (parts - 1);
+        span[d] = (parts * ways) as u32;
+        sent[d] = (below * (parts + 1) + ways * (parts - 1)) as u32;
     }
     Tallies { span, sent }
 }
@@ -56,13 +57,21 @@ pub fn marks_of(m: usize) -> u64
     ((1u64 << m) - 1) + ((1u64 << (m - 1)) - 1)
 }
 
+// The steps of a walk over m axes that sends `sent` transfers for each of n labellings. On numbers, since the search for a step asks it in every turn.
+pub fn count_with(sent: u32, m: usize, n: u64) -> u64
+    requires { ⌜ (sent ≤ 262144) × (m ≤ 8) × (n ≤ 1024) ⌝ }
+    ensures { λ r. ⌜ (r ≡ sent * n + marks m) × (r < 2 ^ 32) ⌝ }
+{
+    let others = marks_of(m);
+    (sent as u64) * n + others
+}
+
 // The steps of the walk over the axes from place d on, of a choice whose kept axes before d have n labellings.
 pub fn walk_count(plan: Plan, d: usize, n: u64, tallies: Tallies) -> u64
     requires { ⌜ (planRefusal plan ≡ 0) × (d ≤ plan .axes) × (n ≤ 1024) × (Tallied plan tallies) ⌝ }
     ensures { λ r. ⌜ (r ≡ walkCount (planGrid plan) (plan .axes - d) d n) × (r < 2 ^ 32) ⌝ }
 {
-    let others = marks_of(plan.axes as usize - d);
-    tallies.sent[d] * n + others
+    count_with(tallies.sent[d], plan.axes as usize - d, n)
 }
 
 // The transfers of the child that sums out the axis at place d.
@@ -71,7 +80,7 @@ pub fn transfer_count(plan: Plan, d: usize, n: u64, tallies: Tallies) -> u64
     ensures { λ r. ⌜ (r ≡ n * span (planGrid plan) (plan .axes - (d + 1)) (d + 1) * (planGrid plan .parts d - 1)) × (r < 2 ^ 32) ⌝ }
 {
     let parts = parts_of(plan, d);
-    n * tallies.span[d + 1] * (parts - 1)
+    n * (tallies.span[d + 1] as u64) * (parts - 1)
 }
 
 // T, of a plan that no check refuses.

@@ -1,56 +1,48 @@
 use native.Mathlib.Omega.{arith}
+use mathlib.Core.Path.{refl, _∙_}
 use Rattle.planner.proofs.Accepting.{passed-accepted}
-use mathlib.Core.Path.{refl}
 use Rattle.planner.proofs.PricingLaws.{few-axes}
 use Rattle.boards.specs.Counts.{walkCount}
-use Rattle.boards.proofs.Tallied.{count-fits}
 use Rattle.tallies.proofs.Tallying.{sent-told}
 use borrow.Author.Needs.{needs}
 use Rattle.tallies.proofs.counts.walk_count.Statement.{statement}
 use Rattle.tallies.proofs.counts.walk_count.Tie as tie
+use Rattle.tallies.proofs.counts.walk_count.Reads as reads
+use Rattle.tallies.proofs.counts.walk_count.Lts as lts
+use Rattle.tallies.proofs.counts.count_with.Reads as count-with-reads
 
--- src/counts.rt:64:27
-cast-marks-of : tie.Need-cast-marks-of
-cast-marks-of c = search needs
+-- src/counts.rt:74:16
+mul-count-with : tie.Need-mul-count-with
+mul-count-with c = search needs
 
--- src/counts.rt:64:27
-sub-marks-of : tie.Need-sub-marks-of
-sub-marks-of c = search needs
+-- src/counts.rt:74:16
+element-copy-out-count-with : tie.Need-element-copy-out-count-with
+element-copy-out-count-with c = let s = c in let gd = s .good .0 .1 .1 .1 .1 in let ok = passed-accepted (s .args .plan) (gd .0 .1 .0 .1) (gd .1 .0 .1 .0 .1) (gd .1 .1 .0 .1 .0 .1) (s .pre .0) in let f = few-axes ok in omega (arith, s .pre .1)
 
--- src/counts.rt:64:9
-marks-of-requires : tie.Need-marks-of-requires
-marks-of-requires c κs = let s = c .before in let gd = s .good .0 .1 .1 .1 .1 in let ok = passed-accepted (s .args .plan) (gd .0 .1 .0 .1) (gd .1 .0 .1 .0 .1) (gd .1 .1 .0 .1 .0 .1) (s .pre .0) in let f = few-axes ok in omega arith
+-- src/counts.rt:74:33
+cast-count-with : tie.Need-cast-count-with
+cast-count-with c = search needs
 
--- src/counts.rt:65:5
-mul-result : tie.Need-mul-result
-mul-result c = search needs
+-- src/counts.rt:74:33
+sub-count-with : tie.Need-sub-count-with
+sub-count-with c = search needs
 
--- src/counts.rt:65:5
-element-copy-out-result : tie.Need-element-copy-out-result
-element-copy-out-result c = let s = c .before .before in let gd = s .good .0 .1 .1 .1 .1 in let ok = passed-accepted (s .args .plan) (gd .0 .1 .0 .1) (gd .1 .0 .1 .0 .1) (gd .1 .1 .0 .1 .0 .1) (s .pre .0) in let f = few-axes ok in omega (arith, s .pre .1)
+-- src/counts.rt:74:5
+count-with-requires : tie.Need-count-with-requires
+count-with-requires c κs = let s = c .before .before in let gd = s .good .0 .1 .1 .1 .1 in let ok = passed-accepted (s .args .plan) (gd .0 .1 .0 .1) (gd .1 .0 .1 .0 .1) (gd .1 .1 .0 .1 .0 .1) (s .pre .0) in let f = few-axes ok in (sent-told (s .args .plan) ok (s .pre .3) (s .args .d) (s .pre .1), omega arith, s .pre .2)
 
--- src/counts.rt:65:5
-mul-result-2 : tie.Need-mul-result-2
-mul-result-2 c = let s = c .before .before .before in let gd = s .good .0 .1 .1 .1 .1 in let ok = passed-accepted (s .args .plan) (gd .0 .1 .0 .1) (gd .1 .0 .1 .0 .1) (gd .1 .1 .0 .1 .0 .1) (s .pre .0) in let a = sent-told (s .args .plan) ok (s .pre .3) (s .args .d) (s .pre .1) in let b = count-fits _ _ 0 a (s .pre .2) (omega arith) in omega arith
-
--- src/counts.rt:65:5
-add-result : tie.Need-add-result
-add-result c = let s = c .before .before .before in let gd = s .good .0 .1 .1 .1 .1 in let ok = passed-accepted (s .args .plan) (gd .0 .1 .0 .1) (gd .1 .0 .1 .0 .1) (gd .1 .1 .0 .1 .0 .1) (s .pre .0) in let a = sent-told (s .args .plan) ok (s .pre .3) (s .args .d) (s .pre .1) in let m = c .before .marks-of .ensures in let b = count-fits _ _ _ a (s .pre .2) (m .1) in omega arith
-
--- src/counts.rt:60:1
+-- src/counts.rt:70:1
 returns : tie.Need-returns
 unfolding walkCount
-returns c = let s = c .before .before .before in let gd = s .good .0 .1 .1 .1 .1 in let ok = passed-accepted (s .args .plan) (gd .0 .1 .0 .1) (gd .1 .0 .1 .0 .1) (gd .1 .1 .0 .1 .0 .1) (s .pre .0) in let a = sent-told (s .args .plan) ok (s .pre .3) (s .args .d) (s .pre .1) in let m = c .before .marks-of .ensures in (rw (s .pre .3 .sents (s .args .d) (s .pre .1), m .0) refl, count-fits _ _ _ a (s .pre .2) (m .1))
+returns c = let s = c .before .before .before in let e = c .count-with .ensures in (e .0 ∙ (rw (s .pre .3 .sents (s .args .d) (s .pre .1)) refl), e .1)
 
 pub walk-count-spec : {M : Type 1} → statement M
 walk-count-spec =
     tie.close
     (tie.spec
-    cast-marks-of
-    sub-marks-of
-    marks-of-requires
-    mul-result
-    element-copy-out-result
-    mul-result-2
-    add-result
+    mul-count-with
+    element-copy-out-count-with
+    cast-count-with
+    sub-count-with
+    count-with-requires
     returns)
