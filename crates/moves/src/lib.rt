@@ -1,5 +1,2 @@
-// What steps write to the work area.
+// Expansions on the work area.
 pub mod expansions;
-pub mod forming;
-pub mod shares;
-pub mod transfers;

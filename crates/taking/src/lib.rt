@@ -6,10 +6,10 @@ ghost use Rattle.tallies.specs.Tallied.{Tallied};
 ghost use Rattle.memory.specs.Entries.{outcome, stepRefusal, stepping};
 use boards::types::Step;
 use moves::expansions::expand_all;
-use moves::transfers::move_cells;
 use planner::types::Plan;
 use rack::steps::step_by;
 use tallies::counts::Tallies;
+use transfers::move_cells;
 
 // Takes the step at the position on a work area, and moves the position; done at the end. For a call that no check refuses, so that a run is judged once.
 pub fn take(

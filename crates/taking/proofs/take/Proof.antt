@@ -14,7 +14,7 @@ use Rattle.taking.proofs.take.Tie as tie
 use Rattle.taking.proofs.take.Reads as reads
 use Rattle.taking.proofs.take.Lts as lts
 use Rattle.moves.proofs.expansions.expand_all.Reads as expand-all-reads
-use Rattle.moves.proofs.transfers.move_cells.Reads as move-cells-reads
+use Rattle.transfers.proofs.move_cells.Reads as move-cells-reads
 use Rattle.rack.proofs.steps.step_by.Reads as step-by-reads
 
 -- src/lib.rt:26:11

@@ -1,4 +1,4 @@
--- `moves::forming::form_cells` meets its contract.
+-- `children::forming::form_cells` meets its contract.
 use Prim.Native.Nat.{_-_, _<_}
 use mathlib.Core.Path.{ap, _∙_}
 use native.Mathlib.Nat.{le-refl}
@@ -11,8 +11,8 @@ use Rattle.boards.proofs.Tallied.{lawful, boards-few}
 use Rattle.boards.proofs.Planned.{own-fit}
 use Rattle.memory.proofs.Formed.{down-of, place-in, room-in, outer-is, inner-is, extent-is, region-small, region-is, sums-fit, sums-formed}
 use borrow.Author.Needs.{needs}
-use Rattle.moves.proofs.forming.form_cells.Statement.{statement}
-use Rattle.moves.proofs.forming.form_cells.Tie as tie
+use Rattle.children.proofs.forming.form_cells.Statement.{statement}
+use Rattle.children.proofs.forming.form_cells.Tie as tie
 
 -- src/forming.rt:28:9
 cells-between-requires : tie.Need-cells-between-requires

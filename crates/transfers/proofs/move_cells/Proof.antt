@@ -10,46 +10,46 @@ use Rattle.boards.proofs.Told.{Known, known-step}
 use Rattle.memory.proofs.Refusing.{area-boards}
 use Rattle.memory.proofs.Moved.{sender-in, other-board, count-fits, next-place, found-at, rows-fit, moved-cells}
 use borrow.Author.Needs.{needs}
-use Rattle.moves.proofs.transfers.move_cells.Statement.{statement}
-use Rattle.moves.proofs.transfers.move_cells.Tie as tie
+use Rattle.transfers.proofs.move_cells.Statement.{statement}
+use Rattle.transfers.proofs.move_cells.Tie as tie
 
--- src/transfers.rt:20:9
+-- src/lib.rt:20:9
 next-of-requires : tie.Need-next-of-requires
 next-of-requires c κs = search needs
 
--- src/transfers.rt:21:31
+-- src/lib.rt:21:31
 cast-region-at : tie.Need-cast-region-at
 cast-region-at c = search needs
 
--- src/transfers.rt:21:48
+-- src/lib.rt:21:48
 sub-region-at : tie.Need-sub-region-at
 sub-region-at c = let s = c .before .before in let gd = s .good .0 .1 .1 .1 .1 in let ok = passed-accepted (s .args .plan) (gd .0 .1 .0 .1) (gd .1 .0 .1 .0 .1) (gd .1 .1 .0 .1 .0 .1) (s .pre .passed) in let k = known-step (planGrid (s .args .plan)) (s .pre .at) _ _ _ _ (s .pre .listed) in let law = lawful (s .args .plan) ok in rw (c .before .next-of .ensures .0, next-place (planGrid (s .args .plan)) law k) (omega arith)
 
--- src/transfers.rt:21:9
+-- src/lib.rt:21:9
 region-at-requires : tie.Need-region-at-requires
 region-at-requires c κs = let s = c .before .before in let gd = s .good .0 .1 .1 .1 .1 in let ok = passed-accepted (s .args .plan) (gd .0 .1 .0 .1) (gd .1 .0 .1 .0 .1) (gd .1 .1 .0 .1 .0 .1) (s .pre .passed) in let k = known-step (planGrid (s .args .plan)) (s .pre .at) _ _ _ _ (s .pre .listed) in let law = lawful (s .args .plan) ok in let e = axes-same (s .args .plan) ok in let b = boards-few (s .args .plan) ok in let i = sender-in (planGrid (s .args .plan)) law k in (s .pre .passed, omega (arith, i, b), let n = c .before .next-of .ensures .1 in omega arith)
 
--- src/transfers.rt:22:31
+-- src/lib.rt:22:31
 cast-region-at-2 : tie.Need-cast-region-at-2
 cast-region-at-2 c = search needs
 
--- src/transfers.rt:22:50
+-- src/lib.rt:22:50
 sub-region-at-2 : tie.Need-sub-region-at-2
 sub-region-at-2 c = let s = c .before .before .before .before in let gd = s .good .0 .1 .1 .1 .1 in let ok = passed-accepted (s .args .plan) (gd .0 .1 .0 .1) (gd .1 .0 .1 .0 .1) (gd .1 .1 .0 .1 .0 .1) (s .pre .passed) in let k = known-step (planGrid (s .args .plan)) (s .pre .at) _ _ _ _ (s .pre .listed) in let law = lawful (s .args .plan) ok in rw (c .before .before .before .next-of .ensures .0, next-place (planGrid (s .args .plan)) law k) (omega arith)
 
--- src/transfers.rt:22:9
+-- src/lib.rt:22:9
 region-at-requires-2 : tie.Need-region-at-requires-2
 region-at-requires-2 c κs = let s = c .before .before .before .before in let gd = s .good .0 .1 .1 .1 .1 in let ok = passed-accepted (s .args .plan) (gd .0 .1 .0 .1) (gd .1 .0 .1 .0 .1) (gd .1 .1 .0 .1 .0 .1) (s .pre .passed) in let k = known-step (planGrid (s .args .plan)) (s .pre .at) _ _ _ _ (s .pre .listed) in let law = lawful (s .args .plan) ok in let e = axes-same (s .args .plan) ok in let b = boards-few (s .args .plan) ok in let i = k .receiver in (s .pre .passed, omega (arith, i, b), let n = c .before .before .before .next-of .ensures .1 in omega arith)
 
--- src/transfers.rt:23:5
+-- src/lib.rt:23:5
 add-row-requires : tie.Need-add-row-requires
 add-row-requires c κs = let s = c .before .before .before .before .before .before in let gd = s .good .0 .1 .1 .1 .1 in let ok = passed-accepted (s .args .plan) (gd .0 .1 .0 .1) (gd .1 .0 .1 .0 .1) (gd .1 .1 .0 .1 .0 .1) (s .pre .passed) in let k = known-step (planGrid (s .args .plan)) (s .pre .at) _ _ _ _ (s .pre .listed) in let law = lawful (s .args .plan) ok in let h = rw (area-boards (s .args .plan) ok) at (s .pre .room) in rows-fit (planGrid (s .args .plan)) law k _ _ _ (found-at (planGrid (s .args .plan)) law k (s .args .t .sender) (c .before .before .before .before .before .next-of .result) _ (c .before .before .before .before .before .next-of .ensures .0) (c .before .before .before .region-at .ensures .0)) (found-at (planGrid (s .args .plan)) law k (s .args .t .receiver) (c .before .before .before .before .before .next-of .result) _ (c .before .before .before .before .before .next-of .ensures .0) (c .before .region-at2 .ensures .0)) h
 
--- src/transfers.rt:16:1
+-- src/lib.rt:16:1
 same-length : tie.Need-same-length
 same-length c = search needs
 
--- src/transfers.rt:16:1
+-- src/lib.rt:16:1
 returns : tie.Need-returns
 returns c = let s = c .before .before .before .before .before .before .before .before in let gd = s .good .0 .1 .1 .1 .1 in let ok = passed-accepted (s .args .plan) (gd .0 .1 .0 .1) (gd .1 .0 .1 .0 .1) (gd .1 .1 .0 .1 .0 .1) (s .pre .passed) in let k = known-step (planGrid (s .args .plan)) (s .pre .at) _ _ _ _ (s .pre .listed) in let law = lawful (s .args .plan) ok in let h = rw (area-boards (s .args .plan) ok) at (s .pre .room) in let e = found-at (planGrid (s .args .plan)) law k (s .args .t .sender) (c .before .before .before .before .before .before .before .next-of .result) _ (c .before .before .before .before .before .before .before .next-of .ensures .0) (c .before .before .before .before .before .region-at .ensures .0) in let f = found-at (planGrid (s .args .plan)) law k (s .args .t .receiver) (c .before .before .before .before .before .before .before .next-of .result) _ (c .before .before .before .before .before .before .before .next-of .ensures .0) (c .before .before .before .region-at2 .ensures .0) in (rw (e, f) at (c .before .add-row .ensures)) ∙ moved-cells (planGrid (s .args .plan)) law k _ h
 

@@ -1,4 +1,4 @@
--- `moves::forming::form_points` meets its contract.
+-- `children::forming::form_points` meets its contract.
 use mathlib.Core.Path.{sym, ap, _∙_}
 use native.Mathlib.Omega.{arith}
 use denote.Ref.{now}
@@ -16,8 +16,8 @@ use Rattle.memory.proofs.Formed.{place-in, room-in, region-small, region-is}
 use Rattle.memory.proofs.Rooted.{root-sums, root-formed}
 use Rattle.memory.proofs.Strided.{child-box, child-slots, child-merges, root-count, root-step, next-empty}
 use borrow.Author.Needs.{needs}
-use Rattle.moves.proofs.forming.form_points.Statement.{statement}
-use Rattle.moves.proofs.forming.form_points.Tie as tie
+use Rattle.children.proofs.forming.form_points.Statement.{statement}
+use Rattle.children.proofs.forming.form_points.Tie as tie
 
 -- src/forming.rt:68:9
 region-in-requires : tie.Need-region-in-requires

@@ -1,4 +1,4 @@
--- `moves::shares::regions_of` meets its contract. The invariant: the regions before region i stand in their slots.
+-- `children::shares::regions_of` meets its contract. The invariant: the regions before region i stand in their slots.
 use Prim.Native.Nat.{ℕ, _-_, _≤_, _<_}
 use mathlib.Core.Path.{_≡_, refl, _∙_}
 use native.Mathlib.Omega.{arith}
@@ -10,8 +10,8 @@ use Rattle.planner.proofs.PricingLaws.{few-axes, filled-next}
 use Rattle.boards.specs.Grids.{regionStart}
 use Rattle.boards.specs.Finding.{planGrid}
 use Rattle.boards.proofs.Planned.{start-plan}
-use Rattle.moves.proofs.shares.regions_of.Statement.{statement}
-use Rattle.moves.proofs.shares.regions_of.Tie as tie
+use Rattle.children.proofs.shares.regions_of.Statement.{statement}
+use Rattle.children.proofs.shares.regions_of.Tie as tie
 
 abbrev Inv-loop : tie.InvT-loop
 Inv-loop plan share starts₀ i₀ starts i = (Accepted plan) × (i ≤ plan .axes) × (length starts ≡ 8) × ((k : ℕ) → k < i → getD starts k 0 ≡ regionStart (planGrid plan) k)

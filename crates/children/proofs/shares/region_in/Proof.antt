@@ -1,10 +1,10 @@
--- `moves::shares::region_in` meets its contract.
+-- `children::shares::region_in` meets its contract.
 use mathlib.Core.Path.{refl}
 use native.Mathlib.Omega.{arith}
 use native.Mathlib.Nat.{mul-le-mul}
 use borrow.Author.Needs.{needs}
-use Rattle.moves.proofs.shares.region_in.Statement.{statement}
-use Rattle.moves.proofs.shares.region_in.Tie as tie
+use Rattle.children.proofs.shares.region_in.Statement.{statement}
+use Rattle.children.proofs.shares.region_in.Tie as tie
 
 -- src/shares.rt:38:5
 mul-result : tie.Need-mul-result
