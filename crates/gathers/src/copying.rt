@@ -1,108 +1,15 @@
 // The entry that copies a finished choice into a lent slice.
 ghost use mathlib.Core.Path.{_≡_};
-ghost use mathlib.Core.Bool.{true};
-ghost use Prim.Native.Nat.{ℕ, _-_, _^_, _≤_, _<_};
-ghost use lib.ListN.{getD, length};
-ghost use Rattle.cube.specs.Tree.{next};
-ghost use Rattle.planner.specs.Plans.{listsOf};
-ghost use Rattle.boards.specs.Grids as Grids;
-ghost use Rattle.boards.specs.Grids.{boards, label, lead, index};
-ghost use Rattle.boards.specs.Finding.{planGrid, summedIn, leads, leadAt};
-ghost use Rattle.memory.specs.Memory.{read};
-ghost use Rattle.memory.specs.Gather.{gathered};
+ghost use Prim.Native.Nat.{ℕ};
+ghost use lib.ListN.{length};
 ghost use Rattle.memory.specs.Entries.{gatherRefusal, gathering};
-ghost use Rattle.memory.specs.Copies.{cellStride, oneBoard, Copying};
 use boards::types::Step;
-use boxes::merging::merge;
 use checks::plan_refusal;
-use choices::types::Choice;
-use copies::put_box;
 use finishes::step_before;
-use grid::places::board_of;
-use grid::places::lead_labels;
-use grid::places::leads_of;
-use grid::places::next_of;
-use grid::places::region_at;
-use grid::places::share_of;
+use leads::copy_all;
 use planner::types::Plan;
 use refusals::area_of;
-use strides::points::extents_of;
-use strides::points::first_cell;
-use strides::points::strides_of;
 use tallies::counts::steps_of;
-
-// A lead's cells, which stand side by side from src on, go to their places in the result. Its labels and the choice's strides are lent.
-pub fn copy_lead(
-    plan: Plan,
-    choice: Choice,
-    board: u64,
-    labels: [u64; 8],
-    strides: [usize; 8],
-    src: u64,
-    work: &[i64],
-    result: &mut [i64],
-)
-    requires { ⌜ (Copying plan (choice .mask) (length (now work)) (length (now result))) × (board < boards (planGrid plan)) × (lead (planGrid plan) (summedIn plan (choice .mask)) board ≡ true)
-        × ((d : ℕ) → d < plan .axes → getD labels d 0 ≡ label (planGrid plan) board d) × (length strides ≡ 8) × ((d : ℕ) → d < plan .axes → getD strides d 0 ≡ cellStride (planGrid plan) (summedIn plan (choice .mask)) d)
-        × (src ≡ index (planGrid plan) board (next (summedIn plan (choice .mask)) - 1) 0) ⌝ }
-    ensures { λ _. ⌜ now (result .exit) ≡ oneBoard (listsOf plan .lengths) (planGrid plan) (summedIn plan (choice .mask)) board (read (now (work .entry))) (now (result .entry)) ⌝ }
-{
-    let mut extents = extents_of(plan, choice, labels);
-    let at = first_cell(plan, choice, strides, labels);
-    let mut apart = strides;
-    let n = plan.axes as usize;
-    // Fewer and longer axes: put_box then copies long rows.
-    let k = merge(&mut extents, &mut apart, n);
-    put_box(
-        result,
-        work,
-        &extents,
-        &apart,
-        n - k,
-        k,
-        at as usize,
-        src as usize,
-    );
-}
-
-// The cells of the lead of a rank. Of board 0 the choice's region starts at `start`.
-pub fn copy_rank(
-    plan: Plan,
-    choice: Choice,
-    rank: u64,
-    strides: [usize; 8],
-    share: u64,
-    start: u64,
-    work: &[i64],
-    result: &mut [i64],
-)
-    requires { ⌜ (Copying plan (choice .mask) (length (now work)) (length (now result))) × (rank < leads (planGrid plan) (summedIn plan (choice .mask)))
-        × (length strides ≡ 8) × ((d : ℕ) → d < plan .axes → getD strides d 0 ≡ cellStride (planGrid plan) (summedIn plan (choice .mask)) d)
-        × (share ≡ Grids.share (planGrid plan)) × (start ≡ index (planGrid plan) 0 (next (summedIn plan (choice .mask)) - 1) 0) × (share ≤ 2 ^ 27) × (start < 2 ^ 38) ⌝ }
-    ensures { λ _. ⌜ now (result .exit) ≡ oneBoard (listsOf plan .lengths) (planGrid plan) (summedIn plan (choice .mask)) (leadAt (planGrid plan) (summedIn plan (choice .mask)) rank) (read (now (work .entry))) (now (result .entry)) ⌝ }
-{
-    let labels = lead_labels(plan, choice, rank);
-    let board = board_of(plan, labels);
-    let src = board * share + start;
-    copy_lead(plan, choice, board, labels, strides, src, work, result);
-}
-
-// The leads' cells, one lead after another.
-pub fn copy_all(plan: Plan, choice: Choice, work: &[i64], result: &mut [i64])
-    requires { ⌜ Copying plan (choice .mask) (length (now work)) (length (now result)) ⌝ }
-    ensures { λ _. ⌜ now (result .exit) ≡ gathered (listsOf plan .lengths) (planGrid plan) (summedIn plan (choice .mask)) (read (now (work .entry))) ⌝ }
-{
-    let strides = strides_of(plan, choice);
-    let share = share_of(plan);
-    let next = next_of(plan, choice);
-    let start = region_at(plan, 0, next - 1);
-    let leads = leads_of(plan, choice);
-    let mut r: u64 = 0;
-    while r < leads {
-        copy_rank(plan, choice, r, strides, share, start, work, result);
-        r += 1;
-    }
-}
 
 // 3 to 6, 8, 9, 11, 12, 13.
 pub fn gather_refusal(plan: Plan, work: u64, position: u64, result: u64) -> u8

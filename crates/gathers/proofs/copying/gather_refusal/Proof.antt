@@ -80,11 +80,11 @@ enum-told-3 c = search needs
 returns-8 : tie.Need-returns-8
 returns-8 c = let s = c .before .before .before .before .before .before .before .before .before in let z = sym (c .before .before .before .before .before .before .before .before .plan-refusal .ensures) ∙ c .before .before .before .before .before .before .before .if1 .left in let gd = s .good .0 .1 .1 .1 .1 in let ok = passed-accepted (s .args .plan) (gd .0 .1 .0 .1) (gd .1 .0 .1 .0 .1) (gd .1 .1 .0 .1 .0 .1) (z) in let law = lawful (s .args .plan) ok in let t = ap told (sym (c .enum-told3 .given .1)) ∙ c .before .before .step-before .ensures in gather-unfinished (s .args .plan) (s .args .work) (s .args .position) (s .args .result) z (rw (c .before .before .before .before .before .before .area-of .ensures .0) at (c .before .before .before .before .before .if2 .left)) (rw (c .before .before .before .before .steps-of .ensures) at (c .before .before .before .if3 .left)) (other-none (planGrid (s .args .plan)) (s .args .position) _ t (λ m e. let y : _≡_ {A = ℕ} 0 1 = cc in omega arith))
 
--- src/copying.rt:108:13
+-- src/copying.rt:15:13
 enum-told-4 : tie.Need-enum-told-4
 enum-told-4 c = search needs
 
--- src/copying.rt:108:13
+-- src/copying.rt:15:13
 returns-9 : tie.Need-returns-9
 returns-9 c = let s = c .before .before .before .before .before .before .before .before .before in let z = sym (c .before .before .before .before .before .before .before .before .plan-refusal .ensures) ∙ c .before .before .before .before .before .before .before .if1 .left in let gd = s .good .0 .1 .1 .1 .1 in let ok = passed-accepted (s .args .plan) (gd .0 .1 .0 .1) (gd .1 .0 .1 .0 .1) (gd .1 .1 .0 .1 .0 .1) (z) in let law = lawful (s .args .plan) ok in let t = ap told (sym (c .enum-told4 .given .1)) ∙ c .before .before .step-before .ensures in gather-unfinished (s .args .plan) (s .args .work) (s .args .position) (s .args .result) z (rw (c .before .before .before .before .before .before .area-of .ensures .0) at (c .before .before .before .before .before .if2 .left)) (rw (c .before .before .before .before .steps-of .ensures) at (c .before .before .before .if3 .left)) (other-none (planGrid (s .args .plan)) (s .args .position) _ t (λ m e. let y : _≡_ {A = ℕ} 0 1 = cc in omega arith))
 
