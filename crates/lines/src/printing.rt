@@ -6,10 +6,10 @@ ghost use lib.ListN.{length};
 ghost use lib.Seq.{sets};
 ghost use Rattle.report.specs.Text.{text, decimal};
 ghost use Rattle.report.specs.Printed.{fields, numbers, signeds};
-use crate::fields::put_cells;
-use crate::fields::put_field;
-use crate::fields::put_numbers;
-use crate::fields::put_word;
+use spelling::fields::put_cells;
+use spelling::fields::put_field;
+use spelling::fields::put_numbers;
+use spelling::fields::put_word;
 
 // A word and numbers: plan, dim, end and refused lines.
 pub fn put_line(out: &mut [u8], word: &[u8], values: &[u64]) -> usize

@@ -1,5 +1,5 @@
-use Rattle.lines.proofs.Spelling.{word-short, line-put, spread-first, group-word}
-use Rattle.lines.specs.Spread.{spread}
+use Rattle.spelling.proofs.Spelling.{word-short, line-put, spread-first, group-word}
+use Rattle.spelling.specs.Spread.{spread}
 use Rattle.report.specs.Printed.{fields, numbers, signeds}
 use Rattle.report.specs.Text.{text, decimal}
 use denote.Ref.{now}
@@ -14,9 +14,9 @@ use Rattle.lines.proofs.printing.put_group.Statement.{statement}
 use Rattle.lines.proofs.printing.put_group.Tie as tie
 use Rattle.lines.proofs.printing.put_group.Reads as reads
 use Rattle.lines.proofs.printing.put_group.Lts as lts
-use Rattle.lines.proofs.fields.put_cells.Reads as put-cells-reads
-use Rattle.lines.proofs.fields.put_field.Reads as put-field-reads
-use Rattle.lines.proofs.fields.put_word.Reads as put-word-reads
+use Rattle.spelling.proofs.fields.put_cells.Reads as put-cells-reads
+use Rattle.spelling.proofs.fields.put_field.Reads as put-field-reads
+use Rattle.spelling.proofs.fields.put_word.Reads as put-word-reads
 
 -- src/printing.rt:33:31
 slice-aggregate-put-word : tie.Need-slice-aggregate-put-word

@@ -1,5 +1,5 @@
-use Rattle.lines.proofs.Spelling.{word-short, line-put, spread-first, group-word}
-use Rattle.lines.specs.Spread.{spread}
+use Rattle.spelling.proofs.Spelling.{word-short, line-put, spread-first, group-word}
+use Rattle.spelling.specs.Spread.{spread}
 use Rattle.report.specs.Printed.{fields, numbers, signeds}
 use Rattle.report.specs.Text.{text, decimal}
 use denote.Ref.{now}
@@ -14,8 +14,8 @@ use Rattle.lines.proofs.printing.put_line.Statement.{statement}
 use Rattle.lines.proofs.printing.put_line.Tie as tie
 use Rattle.lines.proofs.printing.put_line.Reads as reads
 use Rattle.lines.proofs.printing.put_line.Lts as lts
-use Rattle.lines.proofs.fields.put_numbers.Reads as put-numbers-reads
-use Rattle.lines.proofs.fields.put_word.Reads as put-word-reads
+use Rattle.spelling.proofs.fields.put_numbers.Reads as put-numbers-reads
+use Rattle.spelling.proofs.fields.put_word.Reads as put-word-reads
 
 -- src/printing.rt:20:9
 put-word-requires : tie.Need-put-word-requires

@@ -1,14 +1,14 @@
-use Rattle.lines.proofs.Spelling.{word-more, word-whole}
+use Rattle.spelling.proofs.Spelling.{word-more, word-whole}
 use lib.Seq.{sets}
 use lib.ListN.{length, take}
 use native.Mathlib.Omega.{arith}
 use mathlib.Core.Path.{_≡_, _∙_, refl}
 use Prim.Native.Nat.{_≤_, _-_}
 use borrow.Author.Needs.{needs}
-use Rattle.lines.proofs.fields.put_word.Statement.{statement}
-use Rattle.lines.proofs.fields.put_word.Tie as tie
-use Rattle.lines.proofs.fields.put_word.Reads as reads
-use Rattle.lines.proofs.fields.put_word.Lts as lts
+use Rattle.spelling.proofs.fields.put_word.Statement.{statement}
+use Rattle.spelling.proofs.fields.put_word.Tie as tie
+use Rattle.spelling.proofs.fields.put_word.Reads as reads
+use Rattle.spelling.proofs.fields.put_word.Lts as lts
 
 abbrev Inv-loop : tie.InvT-loop
 Inv-loop out₀ word i₀ i-end out i = (i ≤ length word) × (length out ≡ length out₀) × (out ≡ sets out₀ 0 (take i word))

@@ -6,7 +6,7 @@ ghost use lib.ListN.{length};
 ghost use lib.Seq.{sets};
 ghost use Rattle.report.specs.Text.{text, decimal, signed};
 ghost use Rattle.report.specs.Printed.{numbers, signeds};
-ghost use Rattle.lines.specs.Spread.{spread};
+ghost use Rattle.spelling.specs.Spread.{spread};
 use crate::numbers::put_decimal;
 use crate::numbers::put_signed;
 

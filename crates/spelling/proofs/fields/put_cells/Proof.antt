@@ -1,7 +1,7 @@
 use Rattle.report.specs.Text.{text, signed}
 use mathlib.Core.List.{_++_}
-use Rattle.lines.proofs.Spelling.{signed-short, field-more, fields-whole, no-field}
-use Rattle.lines.specs.Spread.{spread}
+use Rattle.spelling.proofs.Spelling.{signed-short, field-more, fields-whole, no-field}
+use Rattle.spelling.specs.Spread.{spread}
 use Rattle.report.specs.Printed.{signeds}
 use mir.Syntax.{w64}
 use mir.Val.{SFits}
@@ -14,11 +14,11 @@ use native.Mathlib.Omega.{arith}
 use mathlib.Core.Path.{_≡_, sym, _∙_, refl, ap}
 use Prim.Native.Nat.{ℕ, _≤_, _<_, _-_, _+_, _*_}
 use borrow.Author.Needs.{needs}
-use Rattle.lines.proofs.fields.put_cells.Statement.{statement}
-use Rattle.lines.proofs.fields.put_cells.Tie as tie
-use Rattle.lines.proofs.fields.put_cells.Reads as reads
-use Rattle.lines.proofs.fields.put_cells.Lts as lts
-use Rattle.lines.proofs.fields.put_cell.Reads as put-cell-reads
+use Rattle.spelling.proofs.fields.put_cells.Statement.{statement}
+use Rattle.spelling.proofs.fields.put_cells.Tie as tie
+use Rattle.spelling.proofs.fields.put_cells.Reads as reads
+use Rattle.spelling.proofs.fields.put_cells.Lts as lts
+use Rattle.spelling.proofs.fields.put_cell.Reads as put-cell-reads
 
 abbrev Inv-loop : tie.InvT-loop
 Inv-loop out₀ at cells next₀ i₀ i-end out next i = (i ≤ length cells) × (length out ≡ length out₀) × (next ≡ at + length (spread (signeds (take i cells)))) × (next ≤ at + 21 * i) × (out ≡ sets out₀ at (spread (signeds (take i cells))))

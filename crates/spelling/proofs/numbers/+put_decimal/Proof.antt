@@ -1,7 +1,7 @@
 use Prim.Native.Nat.{_+_, _/_, _%_}
 use denote.Ref.{now}
 use lib.Seq.{sets}
-use Rattle.lines.proofs.Spelling.{decimal-digit, decimal-length, decimal-more, sets-last}
+use Rattle.spelling.proofs.Spelling.{decimal-digit, decimal-length, decimal-more, sets-last}
 use Rattle.report.specs.Text.{decimal}
 use lib.ListN.{length}
 use native.Mathlib.Omega.{arith}
@@ -10,11 +10,11 @@ use borrow.Author.Needs.{needs}
 use Prim.Native.Nat.{ℕ, _<_}
 use borrow.Fn.Kinds.{In}
 use borrow.Fn.PlainCycle.{Measures, is, falls, and}
-use Rattle.lines.proofs.numbers.put_decimal.Reads as put-decimal
-use Rattle.lines.proofs.numbers.put_decimal.Kinds as put-decimal-kinds
-use Rattle.lines.proofs.numbers.+put_decimal.Lts-put_decimal as put-decimal-lts
-use Rattle.lines.proofs.numbers.+put_decimal.{statement}
-use Rattle.lines.proofs.numbers.+put_decimal.Tie.{close}
+use Rattle.spelling.proofs.numbers.put_decimal.Reads as put-decimal
+use Rattle.spelling.proofs.numbers.put_decimal.Kinds as put-decimal-kinds
+use Rattle.spelling.proofs.numbers.+put_decimal.Lts-put_decimal as put-decimal-lts
+use Rattle.spelling.proofs.numbers.+put_decimal.{statement}
+use Rattle.spelling.proofs.numbers.+put_decimal.Tie.{close}
 
 abbrev μ-put-decimal : Measures 1 put-decimal-kinds.ps ℕ
 μ-put-decimal κs a = a .1 .1 .0

@@ -1,5 +1,5 @@
-use Rattle.lines.proofs.Spelling.{word-short, number-more, numbers-whole, no-number}
-use Rattle.lines.specs.Spread.{spread}
+use Rattle.spelling.proofs.Spelling.{word-short, number-more, numbers-whole, no-number}
+use Rattle.spelling.specs.Spread.{spread}
 use Rattle.report.specs.Printed.{numbers}
 use Rattle.report.specs.Text.{text, decimal}
 use lib.Seq.{sets, length-sets}
@@ -9,11 +9,11 @@ use mathlib.Core.List.{_++_}
 use mathlib.Core.Path.{_≡_, sym, _∙_, refl, ap}
 use Prim.Native.Nat.{ℕ, _≤_, _<_, _-_, _+_, _*_}
 use borrow.Author.Needs.{needs}
-use Rattle.lines.proofs.fields.put_numbers.Statement.{statement}
-use Rattle.lines.proofs.fields.put_numbers.Tie as tie
-use Rattle.lines.proofs.fields.put_numbers.Reads as reads
-use Rattle.lines.proofs.fields.put_numbers.Lts as lts
-use Rattle.lines.proofs.fields.put_field.Reads as put-field-reads
+use Rattle.spelling.proofs.fields.put_numbers.Statement.{statement}
+use Rattle.spelling.proofs.fields.put_numbers.Tie as tie
+use Rattle.spelling.proofs.fields.put_numbers.Reads as reads
+use Rattle.spelling.proofs.fields.put_numbers.Lts as lts
+use Rattle.spelling.proofs.fields.put_field.Reads as put-field-reads
 
 abbrev Inv-loop : tie.InvT-loop
 Inv-loop out₀ at values next₀ i₀ i-end out next i = (i ≤ length values) × (length out ≡ length out₀) × (next ≡ at + length (spread (numbers (take i values)))) × (next ≤ at + 21 * i) × (out ≡ sets out₀ at (spread (numbers (take i values))))

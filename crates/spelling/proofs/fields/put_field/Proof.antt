@@ -1,4 +1,4 @@
-use Rattle.lines.proofs.Spelling.{sets-first, space}
+use Rattle.spelling.proofs.Spelling.{sets-first, space}
 use Rattle.report.specs.Text.{decimal, signed}
 use mir.Facts.{toZ-ofZ}
 use denote.Ref.{now}
@@ -8,11 +8,11 @@ use native.Mathlib.Omega.{arith}
 use mathlib.Core.Path.{_≡_, sym, _∙_, refl, ap}
 use Prim.Native.Nat.{_+_}
 use borrow.Author.Needs.{needs}
-use Rattle.lines.proofs.fields.put_field.Statement.{statement}
-use Rattle.lines.proofs.fields.put_field.Tie as tie
-use Rattle.lines.proofs.fields.put_field.Reads as reads
-use Rattle.lines.proofs.fields.put_field.Lts as lts
-use Rattle.lines.proofs.numbers.put_decimal.Reads as put-decimal-reads
+use Rattle.spelling.proofs.fields.put_field.Statement.{statement}
+use Rattle.spelling.proofs.fields.put_field.Tie as tie
+use Rattle.spelling.proofs.fields.put_field.Reads as reads
+use Rattle.spelling.proofs.fields.put_field.Lts as lts
+use Rattle.spelling.proofs.numbers.put_decimal.Reads as put-decimal-reads
 
 -- src/fields.rt:29:5
 slice-write-out : tie.Need-slice-write-out

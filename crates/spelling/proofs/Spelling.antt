@@ -17,7 +17,7 @@ use Rattle.cube.specs.Boxes.{pick}
 use Rattle.cube.proofs.Sums.{by}
 use Rattle.report.specs.Text.{text, digits, decimal, signed}
 use Rattle.report.specs.Printed.{fields, numbers, signeds}
-use Rattle.lines.specs.Spread.{spread}
+use Rattle.spelling.specs.Spread.{spread}
 
 -- ---- digits
 

@@ -1,4 +1,4 @@
-use Rattle.lines.proofs.Spelling.{signed-neg, signed-pos, sets-first}
+use Rattle.spelling.proofs.Spelling.{signed-neg, signed-pos, sets-first}
 use Rattle.cells.proofs.Bits.{flipped, from-pos}
 use Rattle.report.specs.Text.{decimal}
 use mir.Facts.{toZ-ofZ}
@@ -10,11 +10,11 @@ use native.Mathlib.Omega.{arith}
 use mathlib.Core.Path.{_≡_, sym, _∙_, refl, ap}
 use Prim.Native.Nat.{_+_}
 use borrow.Author.Needs.{needs}
-use Rattle.lines.proofs.numbers.put_signed.Statement.{statement}
-use Rattle.lines.proofs.numbers.put_signed.Tie as tie
-use Rattle.lines.proofs.numbers.put_signed.Reads as reads
-use Rattle.lines.proofs.numbers.put_signed.Lts as lts
-use Rattle.lines.proofs.numbers.put_decimal.Reads as put-decimal-reads
+use Rattle.spelling.proofs.numbers.put_signed.Statement.{statement}
+use Rattle.spelling.proofs.numbers.put_signed.Tie as tie
+use Rattle.spelling.proofs.numbers.put_signed.Reads as reads
+use Rattle.spelling.proofs.numbers.put_signed.Lts as lts
+use Rattle.spelling.proofs.numbers.put_decimal.Reads as put-decimal-reads
 
 -- src/numbers.rt:29:9
 slice-write-out : tie.Need-slice-write-out
