@@ -1,9 +1,8 @@
 -- `moves::expansions::expand_lead` meets its contract: a choice in the work area does not read the array.
-use mathlib.Core.Path.{_∙_}
+use mathlib.Core.Path.{sym, _∙_}
 use native.Mathlib.Omega.{arith}
 use lib.ListN.{length}
 use Rattle.boards.specs.Finding.{planGrid, summedIn, leadAt}
-use Rattle.memory.specs.Memory.{read}
 use Rattle.memory.proofs.Gathering.{table-same}
 use Rattle.memory.proofs.Expanded.{array-unread}
 use borrow.Author.Needs.{needs}
@@ -12,11 +11,11 @@ use Rattle.moves.proofs.expansions.expand_lead.Tie as tie
 
 -- src/expansions.rt:102:9
 expand-points-requires : tie.Need-expand-points-requires
-expand-points-requires c κs = search needs
+expand-points-requires c κs = let s = c .before .before in (s .pre .0, sym (s .pre .1) ∙ c .before .if1 .taken, s .pre .3, s .pre .4, s .pre .5)
 
 -- src/expansions.rt:104:9
 expand-cells-requires : tie.Need-expand-cells-requires
-expand-cells-requires c κs = search needs
+expand-cells-requires c κs = let s = c .before .before in (s .pre .0, s .pre .1, omega (arith, c .before .if1 .left), s .pre .2, s .pre .4)
 
 -- src/expansions.rt:88:1
 same-length : tie.Need-same-length
@@ -24,7 +23,7 @@ same-length c = search needs
 
 -- src/expansions.rt:88:1
 returns : tie.Need-returns
-returns c = search needs
+returns c = c .before .expand-points .ensures
 
 -- src/expansions.rt:88:1
 same-length-2 : tie.Need-same-length-2
