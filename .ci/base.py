@@ -20,7 +20,8 @@ cores. Printed by `python3 .ci/base.py LOG`, where LOG holds what `.ci/run` prin
 
 Lines that are neither blank nor a comment nor an import. Code is src/ without its clauses (`requires`, `ensures`), definitions are specs/, proofs are
 proofs/ with the tables of cases. Functions are those with a body. 'Proof' is the seconds of the crate's own check, with the crates under it already
-proved; 'edits' the sum over its must-fail edits, each a whole check of the crate. Four checks run at a time on two cores, so that each takes longer than alone.
+proved; 'edits' the sum over its must-fail edits, each a whole check of the crate. Four checks run at a time on two cores, so that each takes longer
+than alone.
 '''
 
 
