@@ -1,5 +1,5 @@
 -- The counts of an accepted plan: in steps from axis to axis, and small.
-use Prim.Native.Nat.{ℕ, zero, suc, _+_, _-_, _*_, _^_, _≤_, _<_}
+use Prim.Native.Nat.{ℕ, zero, suc, _+_, _-_, _*_, _%_, _^_, _≤_, _<_}
 use mathlib.Core.Path.{_≡_, sym, _∙_, refl, ap, ap₂}
 use mathlib.Core.List.{[]}
 use native.Mathlib.Nat.{zero-add, sub-zero, two-pow-succ, mul-le-mul}
@@ -13,7 +13,7 @@ use Rattle.cube.proofs.Products.{factor-le, product-append, product-pos, produc
 use Rattle.planner.specs.Plans.{listsOf, boardCount, stepCount}
 use Rattle.planner.specs.declared.types.Plan.{Plan}
 use Rattle.planner.specs.Accepted.{Accepted}
-use Rattle.planner.proofs.PricingLaws.{along, few-axes}
+use Rattle.planner.proofs.PricingLaws.{along, few-axes, shifted}
 use Rattle.boards.specs.Grids.{Grid, Lawful, gridOf, boards}
 use Rattle.boards.specs.Steps.{steps, walk}
 use Rattle.boards.specs.Counts.{span, labellings, sendings, marks, walkCount}
@@ -125,6 +125,10 @@ module _ (q : Plan) (ok : Accepted q) where
           let s = parts-small d h in
           absurd (omega arith)
       go (no r) = omega (arith, r)
+
+  -- the number of portions, as a machine shifts it
+  pub parts-shifted : (d : ℕ) → d < q .axes → (1 * 2 ^ getD (q .exponents) (getD (q .order) d 0) 0) % 18446744073709551616 ≡ gridOf (listsOf q) .parts d
+  parts-shifted d h = shifted _ (exponent-small d h) ∙ parts-slot d h
 
   pub span-small : (d : ℕ) → d ≤ q .axes → span (gridOf (listsOf q)) (q .axes - d) d ≤ 1024
   span-small d h = let a = axes-same in let b = boards-few in let c = span-fits (gridOf (listsOf q)) lawful (q .axes - d) d (omega arith) in omega arith

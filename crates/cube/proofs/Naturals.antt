@@ -3,6 +3,7 @@ use Prim.Native.Nat.{ℕ, zero, suc, _+_, _*_, _≤_, _<_}
 use mathlib.Core.Path.{_≡_, sym, _∙_, refl, ap, ap₂}
 use mathlib.Core.Bool.{Bool, true, false, _&&_, not}
 use native.Mathlib.Nat.{zero-add, add-zero, add-suc, add-assoc, zero-mul, mul-zero, suc-mul, mul-add, add-mul, mul-one, add-le-add}
+use native.Mathlib.Numerals.{add-one}
 use native.Mathlib.Omega.{arith}
 use borrow.Author.Tests.{eqb-true, eqb-false, ne-eqb}
 use lib.Dec.{eqb}
@@ -62,6 +63,10 @@ pub sumN-append : (a b : ℕ) (f : ℕ → ℕ) → sumN (a + b) f ≡ sumN a f 
 unfolding sumN
 sumN-append a zero f = rw (add-zero a) (sym (add-zero (sumN a f)))
 sumN-append a (suc b) f = rw add-suc (ap (λ s. s + f (a + b)) (sumN-append a b f) ∙ add-assoc (sumN a f) (sumN b (λ i. f (a + i))) (f (a + b)))
+
+-- the last term apart
+pub sumN-last : (n : ℕ) (f : ℕ → ℕ) → sumN (n + 1) f ≡ sumN n f + f n
+sumN-last n f = ap (λ m. sumN m f) (add-one n) ∙ (unfold sumN in refl)
 
 -- the first term apart
 pub sumN-first : (n : ℕ) (f : ℕ → ℕ) → sumN (suc n) f ≡ f 0 + sumN n (λ i. f (suc i))

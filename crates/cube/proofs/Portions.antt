@@ -22,6 +22,11 @@ module _ (D P : ℕ) (some : 0 < P) where
       let s = suc-mul (l * D / P) P in
       le-div-iff-mul-le some .1 (rw (suc-mul l D) (omega arith))
 
+  -- no portion ends before it starts
+  pub portion-le : (l : ℕ) → portionStart D P l ≤ portionStart D P (suc l)
+  unfolding portionStart
+  portion-le l = let q = div-mul-le-self (l * D) P in le-div-iff-mul-le some .1 (rw (suc-mul l D) (omega arith))
+
   pub portion-widest : (l : ℕ) → portionStart D P (suc l) ≤ portionStart D P l + ceiling D P
   unfolding portionStart ceiling
   portion-widest l =

@@ -3,8 +3,8 @@ use Prim.Native.Nat.{ℕ, zero, suc, _+_, _-_, _*_, _≤_, _<_}
 use mathlib.Core.Path.{_≡_, sym, _∙_, refl, ap, ap₂}
 use mathlib.Core.List.{List, [], _∷_}
 use native.Mathlib.Nat.{zero-add, add-zero, mul-one, one-mul, mul-zero}
-use native.Mathlib.Numerals.{add-one}
 use native.Mathlib.Omega.{arith}
+use Rattle.cube.proofs.Naturals.{sumN-last}
 use Rattle.cube.specs.Boxes.{sumN, product}
 use Rattle.cube.specs.Tree.{has, kept, choiceCells, lastOf, overSetsFrom, sent, moved, weight, weighted}
 use Rattle.cube.proofs.Boxing.{product-cong}
@@ -62,7 +62,7 @@ module _ (n : ℕ) (len exp : ℕ → ℕ) where
       let p = product-last (λ j. len j + 1) d 0 in
       let z = zero-add d in
       let w : weight n len d ≡ product (λ j. len j + 1) d 0 * product len m (d + 1) = (unfold weight in (let q : n - suc d ≡ m = omega arith in let r : suc d ≡ d + 1 = omega arith in rw (q, r))) in
-      let s : sumN (d + 1) (λ i. weight n len i * sent (exp i)) ≡ sumN d (λ i. weight n len i * sent (exp i)) + weight n len d * sent (exp d) = (unfold sumN in rw add-one) in
+      let s = sumN-last d (λ i. weight n len i * sent (exp i)) in
       let y = (rw (p, z, s, w) at ih) in
       omega arith
 

@@ -1,4 +1,4 @@
-// One step on a work area.
+// The entry that takes one step on a work area.
 ghost use mathlib.Core.Path.{_≡_};
 ghost use Rattle.boards.specs.Answers.{told};
 ghost use Rattle.memory.specs.Entries.{outcome, stepping};
@@ -8,7 +8,7 @@ use refusals::step_refusal;
 use taking::take;
 use tallies::counts::tallies_of;
 
-// The public entry: takes the step at the position and moves the position, or gives the refusal, and then nothing is changed.
+// The public entry: takes the step at the position and moves the position; done at the end, or the refusal, and then nothing is changed.
 pub fn step(plan: Plan, array: &[i32], work: &mut [i64], position: &mut u64) -> Step
     ensures { λ r. ⌜ outcome (told r) (now (work .exit)) (now (position .exit)) ≡ stepping plan (now (array .entry)) (now (work .entry)) (now (position .entry)) ⌝ }
 {

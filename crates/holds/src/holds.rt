@@ -22,7 +22,7 @@ use tallies::counts::transfer_count;
 use tallies::counts::walk_count;
 
 // The cells of a child on a board, which forms them if it is a lead of the parent.
-pub fn own_of(plan: Plan, parent: Choice, child: Choice, board: u64) -> u64
+fn own_of(plan: Plan, parent: Choice, child: Choice, board: u64) -> u64
     requires { ⌜ Forming plan (parent .mask) (child .mask) board ⌝ }
     ensures { λ r. ⌜ (r ≡ Holding.own (planGrid plan) board (summedIn plan (child .mask))) × (r ≤ pointLimit) ⌝ }
 {
@@ -33,7 +33,7 @@ pub fn own_of(plan: Plan, parent: Choice, child: Choice, board: u64) -> u64
 }
 
 // What a board holds of the choices in the walk over the children of a choice from place d on, when `at` of its steps are taken.
-pub fn held_walk(
+fn held_walk(
     plan: Plan,
     choice: Choice,
     d: usize,

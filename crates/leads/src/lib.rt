@@ -1,16 +1,17 @@
 // The cells of a choice, copied lead by lead.
 ghost use mathlib.Core.Path.{_≡_};
 ghost use mathlib.Core.Bool.{true};
-ghost use Prim.Native.Nat.{ℕ, _-_, _^_, _≤_, _<_};
-ghost use lib.ListN.{getD, length};
+ghost use Prim.Native.Nat.{_-_, _*_, _≤_, _<_};
+ghost use lib.ListN.{length};
+ghost use Rattle.cube.specs.Limits.{pointLimit};
 ghost use Rattle.cube.specs.Tree.{next};
 ghost use Rattle.planner.specs.Plans.{listsOf};
-ghost use Rattle.boards.specs.Grids as Grids;
-ghost use Rattle.boards.specs.Grids.{boards, label, lead, index};
+ghost use Rattle.boards.specs.Grids.{boards, lead, regionStart, share, index};
 ghost use Rattle.boards.specs.Finding.{planGrid, summedIn, leads, leadAt};
 ghost use Rattle.memory.specs.Memory.{read};
 ghost use Rattle.memory.specs.Gather.{gathered};
-ghost use Rattle.memory.specs.Copies.{cellStride, oneBoard, Copying};
+ghost use Rattle.memory.specs.Copies.{oneBoard, Copying};
+ghost use Rattle.memory.specs.Expansions.{Own, Strides};
 use boxes::merging::merge;
 use choices::types::Choice;
 use copies::put_box;
@@ -18,15 +19,15 @@ use grid::places::board_of;
 use grid::places::lead_labels;
 use grid::places::leads_of;
 use grid::places::next_of;
-use grid::places::region_at;
-use grid::places::share_of;
 use planner::types::Plan;
+use regions::Region;
+use regions::region_of;
 use strides::points::extents_of;
 use strides::points::first_cell;
 use strides::points::strides_of;
 
 // A lead's cells, which stand side by side from src on, go to their places in the result. Its labels and the choice's strides are lent.
-pub fn copy_lead(
+fn copy_lead(
     plan: Plan,
     choice: Choice,
     board: u64,
@@ -37,7 +38,7 @@ pub fn copy_lead(
     result: &mut [i64],
 )
     requires { ⌜ (Copying plan (choice .mask) (length (now work)) (length (now result))) × (board < boards (planGrid plan)) × (lead (planGrid plan) (summedIn plan (choice .mask)) board ≡ true)
-        × ((d : ℕ) → d < plan .axes → getD labels d 0 ≡ label (planGrid plan) board d) × (length strides ≡ 8) × ((d : ℕ) → d < plan .axes → getD strides d 0 ≡ cellStride (planGrid plan) (summedIn plan (choice .mask)) d)
+        × (Own plan board labels) × (Strides plan (choice .mask) strides)
         × (src ≡ index (planGrid plan) board (next (summedIn plan (choice .mask)) - 1) 0) ⌝ }
     ensures { λ _. ⌜ now (result .exit) ≡ oneBoard (listsOf plan .lengths) (planGrid plan) (summedIn plan (choice .mask)) board (read (now (work .entry))) (now (result .entry)) ⌝ }
 {
@@ -59,25 +60,24 @@ pub fn copy_lead(
     );
 }
 
-// The cells of the lead of a rank. Of board 0 the choice's region starts at `start`.
-pub fn copy_rank(
+// The cells of the lead of a rank, which stand in the choice's region.
+fn copy_rank(
     plan: Plan,
     choice: Choice,
     rank: u64,
     strides: [usize; 8],
-    share: u64,
-    start: u64,
+    region: Region,
     work: &[i64],
     result: &mut [i64],
 )
     requires { ⌜ (Copying plan (choice .mask) (length (now work)) (length (now result))) × (rank < leads (planGrid plan) (summedIn plan (choice .mask)))
-        × (length strides ≡ 8) × ((d : ℕ) → d < plan .axes → getD strides d 0 ≡ cellStride (planGrid plan) (summedIn plan (choice .mask)) d)
-        × (share ≡ Grids.share (planGrid plan)) × (start ≡ index (planGrid plan) 0 (next (summedIn plan (choice .mask)) - 1) 0) × (share ≤ 2 ^ 27) × (start < 2 ^ 38) ⌝ }
+        × (Strides plan (choice .mask) strides) × (region .share ≡ share (planGrid plan)) × (region .start ≡ regionStart (planGrid plan) (next (summedIn plan (choice .mask)) - 1))
+        × (region .share ≤ pointLimit * 8) × (region .start ≤ pointLimit * 8) ⌝ }
     ensures { λ _. ⌜ now (result .exit) ≡ oneBoard (listsOf plan .lengths) (planGrid plan) (summedIn plan (choice .mask)) (leadAt (planGrid plan) (summedIn plan (choice .mask)) rank) (read (now (work .entry))) (now (result .entry)) ⌝ }
 {
     let labels = lead_labels(plan, choice, rank);
     let board = board_of(plan, labels);
-    let src = board * share + start;
+    let src = board * region.share + region.start;
     copy_lead(plan, choice, board, labels, strides, src, work, result);
 }
 
@@ -87,13 +87,12 @@ pub fn copy_all(plan: Plan, choice: Choice, work: &[i64], result: &mut [i64])
     ensures { λ _. ⌜ now (result .exit) ≡ gathered (listsOf plan .lengths) (planGrid plan) (summedIn plan (choice .mask)) (read (now (work .entry))) ⌝ }
 {
     let strides = strides_of(plan, choice);
-    let share = share_of(plan);
     let next = next_of(plan, choice);
-    let start = region_at(plan, 0, next - 1);
+    let region = region_of(plan, next - 1);
     let leads = leads_of(plan, choice);
     let mut r: u64 = 0;
     while r < leads {
-        copy_rank(plan, choice, r, strides, share, start, work, result);
+        copy_rank(plan, choice, r, strides, region, work, result);
         r += 1;
     }
 }

@@ -1,8 +1,7 @@
 -- What the portion rule gives on the numbers in a plan's slots.
-use Prim.Native.Nat.{ℕ, suc, _+_, _-_, _*_, _/_, _^_, _≤_, _<_}
-use mathlib.Core.Path.{_≡_, sym, _∙_, refl, ap}
+use Prim.Native.Nat.{ℕ, suc, _-_, _^_, _<_}
+use mathlib.Core.Path.{_≡_, sym, refl}
 use mathlib.Core.Bool.{Bool, true, false}
-use native.Mathlib.Nat.{suc-mul, le-div-iff-mul-le, div-mul-le-self}
 use native.Mathlib.Omega.{arith}
 use mathlib.Core.List.{List}
 use lib.ListN.{getD}
@@ -17,13 +16,6 @@ use Rattle.boards.specs.Grids.{gridOf}
 use Rattle.boards.specs.Finding.{planGrid, summedIn, Labels}
 use Rattle.boards.proofs.Tallied.{parts-slot, parts-small}
 use Rattle.boards.proofs.Planned.{len-slot, axis-kept, axis-summed}
-
--- no portion ends before it starts
-pub starts-rise : (D P l : ℕ) → 0 < P → portionStart D P l ≤ portionStart D P (suc l)
-unfolding portionStart
-starts-rise D P l some =
-    let q = div-mul-le-self (l * D) P in
-    le-div-iff-mul-le some .1 (rw (suc-mul l D) (omega arith))
 
 module _ (q : Plan) (ok : Accepted q) (d : ℕ) (h : d < q .axes) where
   -- the length and the exponent of the axis at place d

@@ -24,7 +24,7 @@ use tallies::counts::transfer_count;
 use tallies::counts::walk_count;
 
 // The transfer at a position among those of a choice whose last summed axis is at place d.
-pub fn sending(plan: Plan, choice: Choice, d: usize, at: u64) -> Transfer
+fn sending(plan: Plan, choice: Choice, d: usize, at: u64) -> Transfer
     requires { ⌜ Sending plan (choice .mask) d at ⌝ }
     ensures { λ r. ⌜ toldOf r ≡ telling (planGrid plan) (found (planGrid plan) (summedIn plan (choice .mask)) at) ⌝ }
 {
@@ -52,7 +52,7 @@ pub struct Child {
 }
 
 // The child of the walk from place `first` on whose later siblings are done at a position; the place past the last axis if there is none.
-pub fn child_at(
+fn child_at(
     plan: Plan,
     choice: Choice,
     first: usize,
@@ -93,7 +93,7 @@ pub fn child_at(
 
 // The step at a position of the walk over the children of a choice from place d on, taken from right to left: the later children, then the transfers
 // of the child that sums out the axis at d, then its visit. The axes before d that the choice keeps have n labellings.
-pub fn walk(plan: Plan, choice: Choice, d: usize, n: u64, at: u64, tallies: Tallies) -> Step
+fn walk(plan: Plan, choice: Choice, d: usize, n: u64, at: u64, tallies: Tallies) -> Step
     requires { ⌜ (Walking plan (choice .mask) d n) × (Tallied plan tallies) ⌝ }
     ensures { λ r. ⌜ told r ≡ toldAt (planGrid plan) (walk (planGrid plan) (plan .axes - d) d (summedIn plan (choice .mask))) at ⌝ }
 {
@@ -118,7 +118,7 @@ pub fn walk(plan: Plan, choice: Choice, d: usize, n: u64, at: u64, tallies: Tall
 }
 
 // The step at a position of the visit of a choice whose children begin at place d: it is expanded if it has any, and finished after them.
-pub fn visit(plan: Plan, choice: Choice, d: usize, n: u64, at: u64, tallies: Tallies) -> Step
+fn visit(plan: Plan, choice: Choice, d: usize, n: u64, at: u64, tallies: Tallies) -> Step
     requires { ⌜ (Walking plan (choice .mask) d n) × (Tallied plan tallies) ⌝ }
     ensures { λ r. ⌜ told r ≡ toldAt (planGrid plan) (visit (summedIn plan (choice .mask)) (plan .axes - d) (walk (planGrid plan) (plan .axes - d) d (summedIn plan (choice .mask)))) at ⌝ }
 {

@@ -31,7 +31,7 @@ pub fn put_field(out: &mut [u8], at: usize, n: u64) -> usize
 }
 
 // Puts a space and a number with its sign.
-pub fn put_cell(out: &mut [u8], at: usize, z: i64) -> usize
+fn put_cell(out: &mut [u8], at: usize, z: i64) -> usize
     requires { ⌜ at + 1 + length (signed z) ≤ length (now out) ⌝ }
     ensures { λ r. ⌜ (r ≡ at + 1 + length (signed z)) × (now (out .exit) ≡ sets (now (out .entry)) at (text " " ++ signed z)) ⌝ }
 {

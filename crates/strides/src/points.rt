@@ -8,13 +8,14 @@ ghost use Rattle.planner.specs.Refusals.{planRefusal};
 ghost use Rattle.boards.specs.Grids.{boardWith, box};
 ghost use Rattle.boards.specs.Finding.{planGrid, summedIn, Labels};
 ghost use Rattle.memory.specs.Copies.{keptAlong, cellStride};
+ghost use Rattle.memory.specs.Expansions.{Strides};
 use choices::types::Choice;
 use planner::types::Plan;
 use portions::kept_portion;
 use portions::portion_start;
 
 // The length of an axis by its number, and 1 where the choice sums it out.
-pub fn kept_length(plan: Plan, choice: Choice, a: usize) -> u64
+fn kept_length(plan: Plan, choice: Choice, a: usize) -> u64
     requires { ⌜ (planRefusal plan ≡ 0) × (a < plan .axes) ⌝ }
     ensures { λ r. ⌜ r ≡ keptAlong (planGrid plan) (summedIn plan (choice .mask)) a ⌝ }
 {
@@ -25,7 +26,7 @@ pub fn kept_length(plan: Plan, choice: Choice, a: usize) -> u64
 }
 
 // How far apart neighbours on the axis at place d stand: the choice's cells along the axes after it.
-pub fn stride_of(plan: Plan, choice: Choice, d: usize) -> u64
+fn stride_of(plan: Plan, choice: Choice, d: usize) -> u64
     requires { ⌜ (planRefusal plan ≡ 0) × (d < plan .axes) ⌝ }
     ensures { λ r. ⌜ (r ≡ cellStride (planGrid plan) (summedIn plan (choice .mask)) d) × (r ≤ pointLimit) ⌝ }
 {
@@ -42,7 +43,7 @@ pub fn stride_of(plan: Plan, choice: Choice, d: usize) -> u64
 // All strides.
 pub fn strides_of(plan: Plan, choice: Choice) -> [usize; 8]
     requires { ⌜ planRefusal plan ≡ 0 ⌝ }
-    ensures { λ r. ⌜ (length r ≡ 8) × ((d : ℕ) → d < plan .axes → getD r d 0 ≡ cellStride (planGrid plan) (summedIn plan (choice .mask)) d) ⌝ }
+    ensures { λ r. ⌜ Strides plan (choice .mask) r ⌝ }
 {
     let mut strides = [0usize; 8];
     let mut d: usize = 0;
@@ -74,7 +75,7 @@ pub fn extents_of(plan: Plan, choice: Choice, labels: [u64; 8]) -> [usize; 8]
 
 // Where the first cell of the board with these labels stands. The strides are those of the choice, which is lent for the contract alone.
 pub fn first_cell(plan: Plan, choice: Choice, strides: [usize; 8], labels: [u64; 8]) -> u64
-    requires { ⌜ (planRefusal plan ≡ 0) × (Labels plan labels) × ((d : ℕ) → d < plan .axes → getD strides d 0 ≡ cellStride (planGrid plan) (summedIn plan (choice .mask)) d) ⌝ }
+    requires { ⌜ (planRefusal plan ≡ 0) × (Labels plan labels) × (Strides plan (choice .mask) strides) ⌝ }
     ensures { λ r. ⌜ r ≡ sumN (plan .axes) (λ d. planGrid plan .start d (getD labels d 0) * cellStride (planGrid plan) (summedIn plan (choice .mask)) d) ⌝ }
 {
     let mut at: u64 = 0;

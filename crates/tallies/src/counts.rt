@@ -47,7 +47,7 @@ pub fn tallies_of(plan: Plan) -> Tallies
 }
 
 // The finishes and the expansions of a walk over m axes.
-pub fn marks_of(m: usize) -> u64
+fn marks_of(m: usize) -> u64
     requires { ⌜ m ≤ 8 ⌝ }
     ensures { λ r. ⌜ (r ≡ marks m) × (r ≤ 512) ⌝ }
 {

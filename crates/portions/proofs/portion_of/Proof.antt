@@ -2,7 +2,7 @@ use Prim.Native.Nat.{_^_}
 use mathlib.Core.Path.{refl}
 use native.Mathlib.Numerals.{add-one}
 use lib.Pow.{pow-pos}
-use Rattle.portions.proofs.Portioned.{starts-rise}
+use Rattle.cube.proofs.Portions.{portion-le}
 use borrow.Author.Needs.{needs}
 use Rattle.portions.proofs.portion_of.Statement.{statement}
 use Rattle.portions.proofs.portion_of.Tie as tie
@@ -24,7 +24,7 @@ portion-start-requires-2 c κs = search needs
 
 -- src/lib.rt:24:5
 sub-result : tie.Need-sub-result
-sub-result c = let s = c .before .before in rw (c .portion-start2 .ensures, c .before .portion-start .ensures, add-one (s .args .l)) (starts-rise (s .args .length) (2 ^ s .args .k) (s .args .l) (pow-pos _))
+sub-result c = let s = c .before .before in rw (c .portion-start2 .ensures, c .before .portion-start .ensures, add-one (s .args .l)) (portion-le (s .args .length) (2 ^ s .args .k) (pow-pos _) (s .args .l))
 
 -- src/lib.rt:18:1
 returns : tie.Need-returns

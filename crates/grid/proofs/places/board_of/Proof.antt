@@ -7,10 +7,10 @@ use native.Mathlib.Nat.{mul-le-mul}
 use lib.ListN.{getD}
 use Rattle.cube.specs.Boxes.{place}
 use Rattle.planner.specs.Accepted.{Accepted}
-use Rattle.planner.proofs.PricingLaws.{few-axes, order-fits, shifted}
+use Rattle.planner.proofs.PricingLaws.{few-axes, order-fits}
 use Rattle.boards.specs.Grids.{boardWith}
 use Rattle.boards.specs.Finding.{planGrid, Labels}
-use Rattle.boards.proofs.Tallied.{axes-same, parts-slot, parts-small, exponent-small}
+use Rattle.boards.proofs.Tallied.{axes-same, parts-shifted, parts-small, exponent-small}
 use Rattle.boards.proofs.Planned.{place-last, prefix-small}
 use Rattle.grid.proofs.places.board_of.Statement.{statement}
 use Rattle.grid.proofs.places.board_of.Tie as tie
@@ -54,7 +54,7 @@ shl-parts c = let z = c .before .before .before in let s = z .before in let i = 
 
 -- src/places.rt:94:17
 mul-board : tie.Need-mul-board Inv-loop μ-loop
-mul-board c = let z = c .before .before .before in let s = z .before in let i = z .loop .inv in let h = c .before .before .loop-test .taken in let e = shifted _ (exponent-small (s .args .t1) (i .0) (z .loop .d) h) ∙ parts-slot (s .args .t1) (i .0) (z .loop .d) h in let a = prefix-small (s .args .t1) (i .0) (s .args .t2) (i .1) (z .loop .d) (i .2) in let p = parts-small (s .args .t1) (i .0) (z .loop .d) h in let b : z .loop .board ≤ 1024 = omega (arith, i .3) in let m = mul-le-mul b (p .1) in rw e (omega arith)
+mul-board c = let z = c .before .before .before in let s = z .before in let i = z .loop .inv in let h = c .before .before .loop-test .taken in let e = parts-shifted (s .args .t1) (i .0) (z .loop .d) h in let a = prefix-small (s .args .t1) (i .0) (s .args .t2) (i .1) (z .loop .d) (i .2) in let p = parts-small (s .args .t1) (i .0) (z .loop .d) h in let b : z .loop .board ≤ 1024 = omega (arith, i .3) in let m = mul-le-mul b (p .1) in rw e (omega arith)
 
 -- src/places.rt:94:33
 mul-board-2 : tie.Need-mul-board-2 Inv-loop μ-loop
@@ -66,7 +66,7 @@ array-read-board c = let z = c .before .before .before in let s = z .before in l
 
 -- src/places.rt:94:17
 add-board : tie.Need-add-board Inv-loop μ-loop
-add-board c = let z = c .before .before .before in let s = z .before in let i = z .loop .inv in let h = c .before .before .loop-test .taken in let e = shifted _ (exponent-small (s .args .t1) (i .0) (z .loop .d) h) ∙ parts-slot (s .args .t1) (i .0) (z .loop .d) h in let a = prefix-small (s .args .t1) (i .0) (s .args .t2) (i .1) (z .loop .d + 1) (omega (arith, h)) in rw (e, i .3, ← place-last (planGrid (s .args .t1) .parts) (λ i. getD (s .args .t2) i 0) (z .loop .d)) (omega arith)
+add-board c = let z = c .before .before .before in let s = z .before in let i = z .loop .inv in let h = c .before .before .loop-test .taken in let e = parts-shifted (s .args .t1) (i .0) (z .loop .d) h in let a = prefix-small (s .args .t1) (i .0) (s .args .t2) (i .1) (z .loop .d + 1) (omega (arith, h)) in rw (e, i .3, ← place-last (planGrid (s .args .t1) .parts) (λ i. getD (s .args .t2) i 0) (z .loop .d)) (omega arith)
 
 -- src/places.rt:95:9
 add-d : tie.Need-add-d Inv-loop μ-loop
@@ -78,7 +78,7 @@ loop-less c = let h = c .before .before .loop-test .taken in omega arith
 
 -- src/places.rt:91:5
 loop-again : tie.Need-loop-again Inv-loop μ-loop
-loop-again c = let z = c .before .before .before in let s = z .before in let i = z .loop .inv in let h = c .before .before .loop-test .taken in let e = shifted _ (exponent-small (s .args .t1) (i .0) (z .loop .d) h) ∙ parts-slot (s .args .t1) (i .0) (z .loop .d) h in (i .0, i .1, omega (arith, h), rw (e, i .3) (sym (place-last (planGrid (s .args .t1) .parts) (λ i. getD (s .args .t2) i 0) (z .loop .d))))
+loop-again c = let z = c .before .before .before in let s = z .before in let i = z .loop .inv in let h = c .before .before .loop-test .taken in let e = parts-shifted (s .args .t1) (i .0) (z .loop .d) h in (i .0, i .1, omega (arith, h), rw (e, i .3) (sym (place-last (planGrid (s .args .t1) .parts) (λ i. getD (s .args .t2) i 0) (z .loop .d))))
 
 -- src/places.rt:85:1
 returns : tie.Need-returns Inv-loop μ-loop

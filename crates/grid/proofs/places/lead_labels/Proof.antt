@@ -10,11 +10,10 @@ use borrow.Author.Tests.{eqb-true, eqb-false}
 use Rattle.cube.specs.Boxes.{product}
 use Rattle.cube.specs.Tree.{kept}
 use Rattle.planner.specs.Accepted.{Accepted}
-use Rattle.planner.proofs.PricingLaws.{few-axes, order-fits, shifted}
+use Rattle.planner.proofs.PricingLaws.{few-axes, order-fits}
 use Rattle.boards.specs.Finding.{planGrid, summedIn, leadLabel, leads}
 use Rattle.boards.proofs.Planned.{Ranking, ranking-start, ranking-kept, ranking-summed, ranking-end}
-use lib.Pow.{pow-pos}
-use Rattle.boards.proofs.Tallied.{parts-slot, exponent-small}
+use Rattle.boards.proofs.Tallied.{parts-shifted, exponent-small, parts-small}
 use Rattle.grid.proofs.places.lead_labels.Statement.{statement}
 use Rattle.grid.proofs.places.lead_labels.Tie as tie
 use Rattle.grid.proofs.places.lead_labels.Reads as reads
@@ -65,7 +64,7 @@ shl-parts c = let z = c .before .before .before .before .before in let s = z .be
 
 -- src/places.rt:42:25
 rem-labels : tie.Need-rem-labels Inv-loop μ-loop
-rem-labels c = let z = c .before .before .before .before .before in let s = z .before in let i = z .loop .inv in let h : z .loop .d - 1 < s .args .t1 .axes = omega (arith, i .1, c .before .before .before .before .loop-test .taken) in rw (shifted _ (exponent-small (s .args .t1) (i .0) (z .loop .d - 1) h)) (pow-pos _)
+rem-labels c = let z = c .before .before .before .before .before in let s = z .before in let i = z .loop .inv in let h : z .loop .d - 1 < s .args .t1 .axes = omega (arith, i .1, c .before .before .before .before .loop-test .taken) in rw (parts-shifted (s .args .t1) (i .0) (z .loop .d - 1) h) (parts-small (s .args .t1) (i .0) (z .loop .d - 1) h .0)
 
 -- src/places.rt:42:13
 mul-labels : tie.Need-mul-labels Inv-loop μ-loop
@@ -77,7 +76,7 @@ array-write-labels c = let z = c .before .before .before .before .before in let 
 
 -- src/places.rt:43:20
 div-rest : tie.Need-div-rest Inv-loop μ-loop
-div-rest c = let z = c .before .before .before .before .before in let s = z .before in let i = z .loop .inv in let h : z .loop .d - 1 < s .args .t1 .axes = omega (arith, i .1, c .before .before .before .before .loop-test .taken) in rw (shifted _ (exponent-small (s .args .t1) (i .0) (z .loop .d - 1) h)) (pow-pos _)
+div-rest c = let z = c .before .before .before .before .before in let s = z .before in let i = z .loop .inv in let h : z .loop .d - 1 < s .args .t1 .axes = omega (arith, i .1, c .before .before .before .before .loop-test .taken) in rw (parts-shifted (s .args .t1) (i .0) (z .loop .d - 1) h) (parts-small (s .args .t1) (i .0) (z .loop .d - 1) h .0)
 
 -- src/places.rt:37:5
 loop-less : tie.Need-loop-less Inv-loop μ-loop
@@ -85,7 +84,7 @@ loop-less c = let h = c .before .before .before .before .loop-test .taken in ome
 
 -- src/places.rt:37:5
 loop-again : tie.Need-loop-again Inv-loop μ-loop
-loop-again c = let z = c .before .before .before .before .before in let s = z .before in let i = z .loop .inv in let h : z .loop .d - 1 < s .args .t1 .axes = omega (arith, i .1, c .before .before .before .before .loop-test .taken) in let e = shifted _ (exponent-small (s .args .t1) (i .0) (z .loop .d - 1) h) ∙ parts-slot (s .args .t1) (i .0) (z .loop .d - 1) h in (i .0, omega (arith, i .1), simp length-set (i .2), rw e (ranking-kept (s .args .t1) (i .0) (s .args .choice .mask) (s .args .rank) (s .pre .1) (z .loop .labels) (z .loop .rest) (z .loop .d) (i .1) (c .before .before .before .before .loop-test .taken) (i .2) (i .3) (sym (c .before .before .keeps .ensures) ∙ c .before .if1 .taken)))
+loop-again c = let z = c .before .before .before .before .before in let s = z .before in let i = z .loop .inv in let h : z .loop .d - 1 < s .args .t1 .axes = omega (arith, i .1, c .before .before .before .before .loop-test .taken) in let e = parts-shifted (s .args .t1) (i .0) (z .loop .d - 1) h in (i .0, omega (arith, i .1), simp length-set (i .2), rw e (ranking-kept (s .args .t1) (i .0) (s .args .choice .mask) (s .args .rank) (s .pre .1) (z .loop .labels) (z .loop .rest) (z .loop .d) (i .1) (c .before .before .before .before .loop-test .taken) (i .2) (i .3) (sym (c .before .before .keeps .ensures) ∙ c .before .if1 .taken)))
 
 -- src/places.rt:37:5
 loop-less-2 : tie.Need-loop-less-2 Inv-loop μ-loop

@@ -49,7 +49,7 @@ first-cell-requires c κs =
     let gd = s .good .0 .1 .1 .1 .1 in
     let ok = passed-accepted (s .args .plan) (gd .0 .1 .0 .1) (gd .1 .0 .1 .0 .1) (gd .1 .1 .0 .1 .0 .1) (s .pre .0 .passed) in
     let r = root-lead (planGrid (s .args .plan)) (summedIn (s .args .plan) (s .args .root .mask)) (s .args .board) (next-empty (summedIn (s .args .plan) (s .args .root .mask)) (s .pre .1)) (s .pre .0 .below) in
-    (s .pre .0 .passed, own-fit (s .args .plan) ok (s .args .board) (r .0) (c .before .labels-of .result) (c .before .labels-of .ensures), s .pre .4 .1)
+    (s .pre .0 .passed, own-fit (s .args .plan) ok (s .args .board) (r .0) (c .before .labels-of .result) (c .before .labels-of .ensures), s .pre .4)
 
 -- src/expansions.rt:69:13
 cast-n : tie.Need-cast-n Inv-loop μ-loop

@@ -5,13 +5,13 @@ use mathlib.Core.Path.{_≡_, refl, sym, ap, _∙_}
 use native.Mathlib.Nat.{le-refl}
 use Rattle.planner.specs.Accepted.{Accepted}
 use Rattle.planner.proofs.Accepting.{passed-accepted}
-use Rattle.planner.proofs.PricingLaws.{few-axes, order-fits, shifted}
+use Rattle.planner.proofs.PricingLaws.{few-axes, order-fits}
 use Rattle.boards.specs.Answers.{toldAt}
 use Rattle.boards.specs.Counts.{walkCount}
 use Rattle.boards.specs.Finding.{planGrid, summedIn, Walking}
 use Rattle.boards.specs.Steps.{walk}
 use Rattle.boards.proofs.Seeking.{few, kept-on, walk-later}
-use Rattle.boards.proofs.Tallied.{parts-slot, exponent-small}
+use Rattle.boards.proofs.Tallied.{parts-shifted, exponent-small}
 use Rattle.tallies.proofs.Tallying.{sent-told}
 use Rattle.tallies.specs.Tallied.{Tallied}
 use Rattle.rack.proofs.steps.child_at.Statement.{statement}
@@ -57,7 +57,7 @@ shl-more c = let z = c .before .before .before in let s = z .before in let i = z
 
 -- src/steps.rt:72:20
 mul-more : tie.Need-mul-more Inv-loop μ-loop
-mul-more c = let z = c .before .before .before in let s = z .before in let i = z .loop .inv in let h = c .before .before .loop-test .taken in let e = shifted _ (exponent-small (s .args .t1) (i .0) (z .loop .d) h) ∙ parts-slot (s .args .t1) (i .0) (z .loop .d) h in let m = few (i .0) (kept-on (i .0) (i .1) h) in rw e (omega arith)
+mul-more c = let z = c .before .before .before in let s = z .before in let i = z .loop .inv in let h = c .before .before .loop-test .taken in let e = parts-shifted (s .args .t1) (i .0) (z .loop .d) h in let m = few (i .0) (kept-on (i .0) (i .1) h) in rw e (omega arith)
 
 -- src/steps.rt:73:45
 add-count-with : tie.Need-add-count-with Inv-loop μ-loop
@@ -85,7 +85,7 @@ sub-count-with c = let z = c .before .before .before .before in let s = z .befor
 
 -- src/steps.rt:73:13
 count-with-requires : tie.Need-count-with-requires Inv-loop μ-loop
-count-with-requires c κs = let z = c .before .before .before .before in let s = z .before in let i = z .loop .inv in let h = c .before .before .before .loop-test .taken in let e = shifted _ (exponent-small (s .args .t1) (i .0) (z .loop .d) h) ∙ parts-slot (s .args .t1) (i .0) (z .loop .d) h in let f = few-axes (i .0) in (sent-told (s .args .t1) (i .0) (i .3) (z .loop .d + 1) (omega arith), omega arith, rw e (few (i .0) (kept-on (i .0) (i .1) h)))
+count-with-requires c κs = let z = c .before .before .before .before in let s = z .before in let i = z .loop .inv in let h = c .before .before .before .loop-test .taken in let e = parts-shifted (s .args .t1) (i .0) (z .loop .d) h in let f = few-axes (i .0) in (sent-told (s .args .t1) (i .0) (i .3) (z .loop .d + 1) (omega arith), omega arith, rw e (few (i .0) (kept-on (i .0) (i .1) h)))
 
 -- src/steps.rt:75:17
 without-requires : tie.Need-without-requires Inv-loop μ-loop
@@ -94,7 +94,7 @@ without-requires c κs = tt
 -- src/steps.rt:76:13
 returns : tie.Need-returns Inv-loop μ-loop
 unfolding walkCount
-returns c = let z = c .before .before .before .before .before .before .before in let s = z .before in let i = z .loop .inv in let h = c .before .before .before .before .before .before .loop-test .taken in let e = shifted _ (exponent-small (s .args .t1) (i .0) (z .loop .d) h) ∙ parts-slot (s .args .t1) (i .0) (z .loop .d) h in let x : z .loop .d + 1 ≤ s .args .t1 .axes = omega arith in let l : c .before .before .count-with .result ≡ walkCount (planGrid (s .args .t1)) (s .args .t1 .axes - (z .loop .d + 1)) (z .loop .d + 1) (z .loop .n * planGrid (s .args .t1) .parts (z .loop .d)) = c .before .before .count-with .ensures .0 ∙ (rw (e, i .3 .sents (z .loop .d + 1) x) refl) in (i .1, i .2, i .4, λ u. (l, c .before .if1 .taken, c .without .ensures))
+returns c = let z = c .before .before .before .before .before .before .before in let s = z .before in let i = z .loop .inv in let h = c .before .before .before .before .before .before .loop-test .taken in let e = parts-shifted (s .args .t1) (i .0) (z .loop .d) h in let x : z .loop .d + 1 ≤ s .args .t1 .axes = omega arith in let l : c .before .before .count-with .result ≡ walkCount (planGrid (s .args .t1)) (s .args .t1 .axes - (z .loop .d + 1)) (z .loop .d + 1) (z .loop .n * planGrid (s .args .t1) .parts (z .loop .d)) = c .before .before .count-with .ensures .0 ∙ (rw (e, i .3 .sents (z .loop .d + 1) x) refl) in (i .1, i .2, i .4, λ u. (l, c .before .if1 .taken, c .without .ensures))
 
 -- src/steps.rt:84:9
 add-d : tie.Need-add-d Inv-loop μ-loop
@@ -107,7 +107,7 @@ loop-less c = let h = c .before .before .before .before .before .loop-test .take
 -- src/steps.rt:70:5
 loop-again : tie.Need-loop-again Inv-loop μ-loop
 unfolding walkCount
-loop-again c = let z = c .before .before .before .before .before .before in let s = z .before in let i = z .loop .inv in let h = c .before .before .before .before .before .loop-test .taken in let e = shifted _ (exponent-small (s .args .t1) (i .0) (z .loop .d) h) ∙ parts-slot (s .args .t1) (i .0) (z .loop .d) h in let x : z .loop .d + 1 ≤ s .args .t1 .axes = omega arith in let l : c .before .count-with .result ≡ walkCount (planGrid (s .args .t1)) (s .args .t1 .axes - (z .loop .d + 1)) (z .loop .d + 1) (z .loop .n * planGrid (s .args .t1) .parts (z .loop .d)) = c .before .count-with .ensures .0 ∙ (rw (e, i .3 .sents (z .loop .d + 1) x) refl) in let b : s .args .at < c .before .count-with .result = omega (arith, c .if1 .left) in (i .0, rw e (kept-on (i .0) (i .1) h), omega (arith, i .2), i .3, walk-later (i .0) (i .1) h l b ∙ i .4)
+loop-again c = let z = c .before .before .before .before .before .before in let s = z .before in let i = z .loop .inv in let h = c .before .before .before .before .before .loop-test .taken in let e = parts-shifted (s .args .t1) (i .0) (z .loop .d) h in let x : z .loop .d + 1 ≤ s .args .t1 .axes = omega arith in let l : c .before .count-with .result ≡ walkCount (planGrid (s .args .t1)) (s .args .t1 .axes - (z .loop .d + 1)) (z .loop .d + 1) (z .loop .n * planGrid (s .args .t1) .parts (z .loop .d)) = c .before .count-with .ensures .0 ∙ (rw (e, i .3 .sents (z .loop .d + 1) x) refl) in let b : s .args .at < c .before .count-with .result = omega (arith, c .if1 .left) in (i .0, rw e (kept-on (i .0) (i .1) h), omega (arith, i .2), i .3, walk-later (i .0) (i .1) h l b ∙ i .4)
 
 -- src/steps.rt:55:1
 returns-2 : tie.Need-returns-2 Inv-loop μ-loop

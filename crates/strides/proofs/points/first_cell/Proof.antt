@@ -2,11 +2,10 @@ use native.Mathlib.Omega.{arith}
 use borrow.Author.Needs.{needs}
 use Prim.Native.Nat.{ℕ, _+_, _-_, _*_, _≤_, _<_}
 use mathlib.Core.Path.{_≡_, refl, sym, ap, ap₂, _∙_}
-use native.Mathlib.Numerals.{add-one}
 use lib.ListN.{getD}
 use Rattle.cube.specs.Boxes.{sumN}
 use Rattle.cube.specs.Limits.{pointLimit}
-use Rattle.cube.proofs.Naturals.{sumN-cong}
+use Rattle.cube.proofs.Naturals.{sumN-cong, sumN-last}
 use Rattle.planner.specs.Accepted.{Accepted}
 use Rattle.planner.proofs.Accepting.{passed-accepted}
 use Rattle.planner.proofs.PricingLaws.{few-axes, order-fits}
@@ -20,9 +19,6 @@ use Rattle.strides.proofs.points.first_cell.Tie as tie
 use Rattle.strides.proofs.points.first_cell.Reads as reads
 use Rattle.strides.proofs.points.first_cell.Lts as lts
 use Rattle.portions.proofs.portion_start.Reads as portion-start-reads
-
-sum-last : (f : ℕ → ℕ) (d : ℕ) → sumN (d + 1) f ≡ sumN d f + f d
-sum-last f d = ap (λ n. sumN n f) (add-one d) ∙ (unfold sumN in refl)
 
 abbrev Inv-loop : tie.InvT-loop
 Inv-loop plan strides labels at₀ d₀ at d = (Accepted plan) × (Labels plan labels) × (d ≤ plan .axes) × (at ≡ sumN d (λ i. planGrid plan .start i (getD labels i 0) * getD strides i 0)) × (at ≤ 1099511627776 * d)
@@ -81,11 +77,11 @@ array-read-at c = let z = c .before .before .before .before .before in let s = z
 
 -- src/points.rt:85:15
 mul-at-2 : tie.Need-mul-at-2 Inv-loop μ-loop
-mul-at-2 c = let z = c .before .before .before .before .before in let s = z .before in let i = z .loop .inv in let h = c .before .before .before .before .loop-test .taken in let r : getD (s .args .t4) (z .loop .d) 0 ≤ planGrid (s .args .t1) .parts (z .loop .d) = (let l = i .1 (z .loop .d) h in omega arith) in let e = c .portion-start .ensures ∙ start-here (s .args .t1) (i .0) (z .loop .d) h (getD (s .args .t4) (z .loop .d) 0) in let a = start-small (s .args .t1) (i .0) (z .loop .d) (getD (s .args .t4) (z .loop .d) 0) h r in let b : getD (s .args .t3) (z .loop .d) 0 ≤ pointLimit = rw (s .pre .2 (z .loop .d) h) (stride-small (s .args .t1) (i .0) (s .args .choice .mask) (z .loop .d) h) in let m = term-fits (c .portion-start .result) (getD (s .args .t3) (z .loop .d) 0) (rw e a) b in omega arith
+mul-at-2 c = let z = c .before .before .before .before .before in let s = z .before in let i = z .loop .inv in let h = c .before .before .before .before .loop-test .taken in let r : getD (s .args .t4) (z .loop .d) 0 ≤ planGrid (s .args .t1) .parts (z .loop .d) = (let l = i .1 (z .loop .d) h in omega arith) in let e = c .portion-start .ensures ∙ start-here (s .args .t1) (i .0) (z .loop .d) h (getD (s .args .t4) (z .loop .d) 0) in let a = start-small (s .args .t1) (i .0) (z .loop .d) (getD (s .args .t4) (z .loop .d) 0) h r in let b : getD (s .args .t3) (z .loop .d) 0 ≤ pointLimit = rw (s .pre .2 .1 (z .loop .d) h) (stride-small (s .args .t1) (i .0) (s .args .choice .mask) (z .loop .d) h) in let m = term-fits (c .portion-start .result) (getD (s .args .t3) (z .loop .d) 0) (rw e a) b in omega arith
 
 -- src/points.rt:85:9
 add-at : tie.Need-add-at Inv-loop μ-loop
-add-at c = let z = c .before .before .before .before .before in let s = z .before in let i = z .loop .inv in let h = c .before .before .before .before .loop-test .taken in let r : getD (s .args .t4) (z .loop .d) 0 ≤ planGrid (s .args .t1) .parts (z .loop .d) = (let l = i .1 (z .loop .d) h in omega arith) in let e = c .portion-start .ensures ∙ start-here (s .args .t1) (i .0) (z .loop .d) h (getD (s .args .t4) (z .loop .d) 0) in let a = start-small (s .args .t1) (i .0) (z .loop .d) (getD (s .args .t4) (z .loop .d) 0) h r in let b : getD (s .args .t3) (z .loop .d) 0 ≤ pointLimit = rw (s .pre .2 (z .loop .d) h) (stride-small (s .args .t1) (i .0) (s .args .choice .mask) (z .loop .d) h) in let m = term-fits (c .portion-start .result) (getD (s .args .t3) (z .loop .d) 0) (rw e a) b in let f = few-axes (i .0) in omega (arith, i .4)
+add-at c = let z = c .before .before .before .before .before in let s = z .before in let i = z .loop .inv in let h = c .before .before .before .before .loop-test .taken in let r : getD (s .args .t4) (z .loop .d) 0 ≤ planGrid (s .args .t1) .parts (z .loop .d) = (let l = i .1 (z .loop .d) h in omega arith) in let e = c .portion-start .ensures ∙ start-here (s .args .t1) (i .0) (z .loop .d) h (getD (s .args .t4) (z .loop .d) 0) in let a = start-small (s .args .t1) (i .0) (z .loop .d) (getD (s .args .t4) (z .loop .d) 0) h r in let b : getD (s .args .t3) (z .loop .d) 0 ≤ pointLimit = rw (s .pre .2 .1 (z .loop .d) h) (stride-small (s .args .t1) (i .0) (s .args .choice .mask) (z .loop .d) h) in let m = term-fits (c .portion-start .result) (getD (s .args .t3) (z .loop .d) 0) (rw e a) b in let f = few-axes (i .0) in omega (arith, i .4)
 
 -- src/points.rt:86:9
 add-d : tie.Need-add-d Inv-loop μ-loop
@@ -97,11 +93,11 @@ loop-less c = let h = c .before .before .before .before .loop-test .taken in ome
 
 -- src/points.rt:82:5
 loop-again : tie.Need-loop-again Inv-loop μ-loop
-loop-again c = let z = c .before .before .before .before .before in let s = z .before in let i = z .loop .inv in let h = c .before .before .before .before .loop-test .taken in let r : getD (s .args .t4) (z .loop .d) 0 ≤ planGrid (s .args .t1) .parts (z .loop .d) = (let l = i .1 (z .loop .d) h in omega arith) in let e = c .portion-start .ensures ∙ start-here (s .args .t1) (i .0) (z .loop .d) h (getD (s .args .t4) (z .loop .d) 0) in let a = start-small (s .args .t1) (i .0) (z .loop .d) (getD (s .args .t4) (z .loop .d) 0) h r in let b : getD (s .args .t3) (z .loop .d) 0 ≤ pointLimit = rw (s .pre .2 (z .loop .d) h) (stride-small (s .args .t1) (i .0) (s .args .choice .mask) (z .loop .d) h) in let m = term-fits (c .portion-start .result) (getD (s .args .t3) (z .loop .d) 0) (rw e a) b in (i .0, i .1, omega (arith, h), ap₂ _+_ (i .3) (ap (λ x. x * getD (s .args .t3) (z .loop .d) 0) e) ∙ sym (sum-last (λ d. planGrid (s .args .t1) .start d (getD (s .args .t4) d 0) * getD (s .args .t3) d 0) (z .loop .d)), omega (arith, i .4))
+loop-again c = let z = c .before .before .before .before .before in let s = z .before in let i = z .loop .inv in let h = c .before .before .before .before .loop-test .taken in let r : getD (s .args .t4) (z .loop .d) 0 ≤ planGrid (s .args .t1) .parts (z .loop .d) = (let l = i .1 (z .loop .d) h in omega arith) in let e = c .portion-start .ensures ∙ start-here (s .args .t1) (i .0) (z .loop .d) h (getD (s .args .t4) (z .loop .d) 0) in let a = start-small (s .args .t1) (i .0) (z .loop .d) (getD (s .args .t4) (z .loop .d) 0) h r in let b : getD (s .args .t3) (z .loop .d) 0 ≤ pointLimit = rw (s .pre .2 .1 (z .loop .d) h) (stride-small (s .args .t1) (i .0) (s .args .choice .mask) (z .loop .d) h) in let m = term-fits (c .portion-start .result) (getD (s .args .t3) (z .loop .d) 0) (rw e a) b in (i .0, i .1, omega (arith, h), ap₂ _+_ (i .3) (ap (λ x. x * getD (s .args .t3) (z .loop .d) 0) e) ∙ sym (sumN-last (z .loop .d) (λ d. planGrid (s .args .t1) .start d (getD (s .args .t4) d 0) * getD (s .args .t3) d 0)), omega (arith, i .4))
 
 -- src/points.rt:76:1
 returns : tie.Need-returns Inv-loop μ-loop
-returns c = let z = c .before in let s = z .before in let i = z .loop .inv in let e : z .loop .d ≡ s .args .t1 .axes = omega (arith, i .2, c .loop-test .left) in i .3 ∙ ap (λ n. sumN n (λ d. planGrid (s .args .t1) .start d (getD (s .args .t4) d 0) * getD (s .args .t3) d 0)) e ∙ sumN-cong (s .args .t1 .axes) (λ d h. ap (λ x. planGrid (s .args .t1) .start d (getD (s .args .t4) d 0) * x) (s .pre .2 d h))
+returns c = let z = c .before in let s = z .before in let i = z .loop .inv in let e : z .loop .d ≡ s .args .t1 .axes = omega (arith, i .2, c .loop-test .left) in i .3 ∙ ap (λ n. sumN n (λ d. planGrid (s .args .t1) .start d (getD (s .args .t4) d 0) * getD (s .args .t3) d 0)) e ∙ sumN-cong (s .args .t1 .axes) (λ d h. ap (λ x. planGrid (s .args .t1) .start d (getD (s .args .t4) d 0) * x) (s .pre .2 .1 d h))
 
 pub first-cell-spec : {M : Type 1} → statement M
 first-cell-spec =

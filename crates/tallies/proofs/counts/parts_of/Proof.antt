@@ -1,9 +1,9 @@
 use native.Mathlib.Omega.{arith}
-use mathlib.Core.Path.{refl, _∙_}
+use mathlib.Core.Path.{refl}
 use borrow.Author.Needs.{needs}
 use Rattle.planner.proofs.Accepting.{passed-accepted}
-use Rattle.planner.proofs.PricingLaws.{few-axes, order-fits, shifted}
-use Rattle.boards.proofs.Tallied.{parts-slot, parts-small, exponent-small}
+use Rattle.planner.proofs.PricingLaws.{few-axes, order-fits}
+use Rattle.boards.proofs.Tallied.{parts-small, exponent-small, parts-shifted}
 use Rattle.tallies.proofs.counts.parts_of.Statement.{statement}
 use Rattle.tallies.proofs.counts.parts_of.Tie as tie
 
@@ -23,7 +23,7 @@ shl-result : tie.Need-shl-result
 shl-result c = let s = c .before .before in let g = s .good .0 .1 .1 .1 .1 in let ok = passed-accepted (s .args .t1) (g .0 .1 .0 .1) (g .1 .0 .1 .0 .1) (g .1 .1 .0 .1 .0 .1) (s .pre .0) in let e = exponent-small (s .args .t1) ok (s .args .d) (s .pre .1) in omega arith
 
 returns : tie.Need-returns
-returns c = let s = c .before .before in let g = s .good .0 .1 .1 .1 .1 in let ok = passed-accepted (s .args .t1) (g .0 .1 .0 .1) (g .1 .0 .1 .0 .1) (g .1 .1 .0 .1 .0 .1) (s .pre .0) in let e = exponent-small (s .args .t1) ok (s .args .d) (s .pre .1) in rw (shifted _ e ∙ parts-slot (s .args .t1) ok (s .args .d) (s .pre .1)) (let b = parts-small (s .args .t1) ok (s .args .d) (s .pre .1) in (refl, b .0, b .1))
+returns c = let s = c .before .before in let g = s .good .0 .1 .1 .1 .1 in let ok = passed-accepted (s .args .t1) (g .0 .1 .0 .1) (g .1 .0 .1 .0 .1) (g .1 .1 .0 .1 .0 .1) (s .pre .0) in rw (parts-shifted (s .args .t1) ok (s .args .d) (s .pre .1)) (let b = parts-small (s .args .t1) ok (s .args .d) (s .pre .1) in (refl, b .0, b .1))
 
 pub parts-of-spec : {M : Type 1} → statement M
 parts-of-spec =
