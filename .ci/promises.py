@@ -23,7 +23,7 @@ for file in root.glob('crates/*/src/*.rt'):
     every |= set(re.findall(r'\b(\w+)\b', file.read_text(encoding='utf-8')))
 bad = []
 for word in re.findall(r'`([^`]+)`', text):
-    place = re.fullmatch(r'([a-z]+)/([A-Z]\w*)(?:\.(\S+))?', word)
+    place = re.fullmatch(r'([a-z_]+)/([A-Z]\w*)(?:\.(\S+))?', word)
     if place:
         crate, stem, name = place.groups()
         if (crate, stem) not in declared:

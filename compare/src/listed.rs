@@ -18,8 +18,8 @@ const STEPS: &str = "\
 -- Small plans with their steps, and what each board holds at each position. Written by `compare table steps`.
 use Prim.Native.Nat.{ℕ}
 use mathlib.Core.List.{List, [], _∷_}
-use Rattle.planner.specs.Plans.{PlanLists}
-use Rattle.boards.specs.Answers.{Told, expands, transfers, finishes}
+use Rattle.plan_spec.specs.Plans.{PlanLists}
+use Rattle.rack_spec.specs.Answers.{Told, expands, transfers, finishes}
 
 -- `held` has a list for each board, from position 0 to T
 pub record Case : Type 0 where
@@ -33,7 +33,7 @@ const MEMORY: &str = "\
 use Prim.Native.Nat.{ℕ}
 use mathlib.Core.List.{List, [], _∷_}
 use lib.IntN.{ℤ, pos, negsuc}
-use Rattle.planner.specs.Plans.{PlanLists}
+use Rattle.plan_spec.specs.Plans.{PlanLists}
 
 -- `gathered` and `viewed` have an item for each finish; a view has a part for each board
 pub record Case : Type 0 where

@@ -14,7 +14,7 @@ const OPENING: &str = "\
 -- Small tapes with what the program prints for each. Written by `compare table tapes`, which works the output out by direct sums of its own.
 use Prim.Native.Nat.{ℕ}
 use mathlib.Core.List.{List, [], _∷_}
-use Rattle.report.specs.Text.{text}
+use Rattle.report_spec.specs.Text.{text}
 
 pub record Case : Type 0 where
   pub tape : List ℕ

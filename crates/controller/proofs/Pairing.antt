@@ -9,15 +9,15 @@ use borrow.Author.Tests.{eq-eqb, ne-eqb, lt-ltb}
 use lib.Dec.{eqb, ltb}
 use lib.ListN.{length, getD, take, drop, drop-of-length-le}
 use lib.Seq.{paste, take-paste, length-paste}
-use Rattle.cube.specs.Limits.{padded}
-use Rattle.cube.specs.Bytes.{little}
-use Rattle.cube.specs.Boxes.{pick, table}
-use Rattle.cube.specs.Checks.{check, first}
-use Rattle.cube.proofs.Slots.{padded-length, padded-all, padded-take}
-use Rattle.planner.specs.declared.types.Arrangement.{Arrangement}
-use Rattle.planner.specs.Answers.{arrangement}
-use Rattle.planner.specs.Rule.{order, orderedExponents}
-use Rattle.planner.specs.Refusals.{some, badAxes, badLength, tooManyPoints, tooManyBoards, noRoom, lengthChecks, planningChecks, planningRefusal}
+use Rattle.cube_spec.specs.Limits.{padded}
+use Rattle.cube_spec.specs.Bytes.{little}
+use Rattle.cube_spec.specs.Boxes.{pick, table}
+use Rattle.cube_spec.specs.Checks.{check, first}
+use Rattle.cube_spec.proofs.Slots.{padded-length, padded-all, padded-take}
+use Rattle.plan_spec.specs.declared.types.Arrangement.{Arrangement}
+use Rattle.plan_spec.specs.Answers.{arrangement}
+use Rattle.plan_spec.specs.Rule.{order, orderedExponents}
+use Rattle.plan_spec.specs.Refusals.{some, badAxes, badLength, tooManyPoints, tooManyBoards, noRoom, lengthChecks, planningChecks, planningRefusal}
 use Rattle.controller.specs.Bytes.{pairs, oddBytes, wrongResult, controllerChecks, controllerRefusal, writtenOr, written}
 
 -- ---- pairs

@@ -4,10 +4,10 @@ use mathlib.Core.Bool.{Bool, _||_, not}
 use mathlib.Core.List.{List, [], _∷_, _++_}
 use lib.Dec.{eqb}
 use lib.ListN.{length}
-use Rattle.cube.specs.Bytes.{little}
-use Rattle.cube.specs.Checks.{Check, check, first}
-use Rattle.planner.specs.Rule.{order, orderedExponents}
-use Rattle.planner.specs.Refusals.{planningChecks}
+use Rattle.cube_spec.specs.Bytes.{little}
+use Rattle.cube_spec.specs.Checks.{Check, check, first}
+use Rattle.plan_spec.specs.Rule.{order, orderedExponents}
+use Rattle.plan_spec.specs.Refusals.{planningChecks}
 
 -- "lengths as 2-byte little-endian pairs"
 unfoldable pub pairs : List ℕ → List ℕ

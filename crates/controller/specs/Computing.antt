@@ -1,7 +1,7 @@
 -- Names every definition, so that a fact that computes with them says `unfolding computing`.
 use Prim.Native.Nat.{ℕ}
 use Rattle.controller.specs.Bytes
-use Rattle.planner.specs.Computing as planner
+use Rattle.plan_spec.specs.Computing as planner
 
 unfoldable pub computing : ℕ
 unfolding Bytes.pairs Bytes.oddBytes Bytes.wrongResult Bytes.controllerChecks Bytes.controllerRefusal Bytes.writtenOr Bytes.written planner.computing

@@ -8,16 +8,16 @@ use borrow.Author.Tests.{eq-eqb, ne-eqb}
 use lib.ListN.{length, take, set, getD}
 use lib.Seq.{take-all, take-suc, take-suc-set}
 use lib.IntN.{ℤ, pos}
-use Rattle.cube.specs.Checks.{first}
-use Rattle.planner.specs.declared.types.Plan.{Plan}
-use Rattle.planner.specs.Refusals.{planChecks, lengthChecks}
-use Rattle.boards.proofs.Refusing.{Numbered}
-use Rattle.boards.specs.Answers.{Told}
-use Rattle.memory.specs.Entries.{outcome, stepping, viewChecks, viewRefusal, viewing, gatherRefusal, gathering}
-use Rattle.slices.specs.Probing.{writtenOr}
-use Rattle.slices.specs.Racks.{lentRefusal, cellsTold}
+use Rattle.cube_spec.specs.Checks.{first}
+use Rattle.plan_spec.specs.declared.types.Plan.{Plan}
+use Rattle.plan_spec.specs.Refusals.{planChecks, lengthChecks}
+use Rattle.rack_spec.proofs.Refusing.{Numbered}
+use Rattle.rack_spec.specs.Answers.{Told}
+use Rattle.run_spec.specs.Entries.{outcome, stepping, viewChecks, viewRefusal, viewing, gatherRefusal, gathering}
+use Rattle.campaign_slices.specs.Probing.{writtenOr}
+use Rattle.campaign_slices.specs.Racks.{lentRefusal, cellsTold}
 use Rattle.probe.specs.Runs.{ran, ranOr, running, showRefusal, showing}
-use Rattle.slices.proofs.Racking as racking
+use Rattle.campaign_slices.proofs.Racking as racking
 
 -- ---- copies
 

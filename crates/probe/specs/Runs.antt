@@ -3,10 +3,10 @@ use Prim.Native.Nat.{ℕ, zero, suc}
 use mathlib.Core.List.{List, []}
 use lib.ListN.{length}
 use lib.IntN.{ℤ}
-use Rattle.planner.specs.declared.types.Plan.{Plan}
-use Rattle.memory.specs.Entries.{Outcome, stepping, viewChecks, viewing}
-use Rattle.slices.specs.Probing.{writtenOr}
-use Rattle.slices.specs.Racks.{lentRefusal, cellsTold}
+use Rattle.plan_spec.specs.declared.types.Plan.{Plan}
+use Rattle.run_spec.specs.Entries.{Outcome, stepping, viewChecks, viewing}
+use Rattle.campaign_slices.specs.Probing.{writtenOr}
+use Rattle.campaign_slices.specs.Racks.{lentRefusal, cellsTold}
 
 -- ---- step: a plan, an array, a work area, a position, and a slice for what is told
 

@@ -4,9 +4,9 @@ pub mod runs;
 
 ghost use mathlib.Core.Path.{_≡_};
 ghost use lib.ListN.{length};
-ghost use Rattle.tape.specs.Reading.{readingRefusal, reading};
-ghost use Rattle.slices.specs.Probing.{probeRefusal, probed};
-use slices::put;
+ghost use Rattle.tape_spec.specs.Reading.{readingRefusal, reading};
+ghost use Rattle.campaign_slices.specs.Probing.{probeRefusal, probed};
+use campaign_slices::put;
 
 // Scans a tape: the answer is 0 or the refusal, and a slice of eleven cells gets the axes, p, the points and eight lengths.
 #[no_mangle]
@@ -14,7 +14,7 @@ pub extern "C" fn tape_scan(tape: &[u8], out: &mut [u64]) -> u8
     ensures { λ r. ⌜ (r ≡ probeRefusal (now (tape .entry)) (length (now (out .entry))))
         × (now (out .exit) ≡ probed (now (tape .entry)) (now (out .entry))) ⌝ }
 {
-    let found = scanner::scan(tape);
+    let found = tape_scan::scan(tape);
     if found.refusal != 0 {
         return found.refusal;
     }
@@ -35,5 +35,5 @@ pub extern "C" fn tape_fill(tape: &[u8], slice: &mut [i32]) -> u8
     ensures { λ r. ⌜ (r ≡ readingRefusal (now (tape .entry)) (length (now (slice .entry))))
         × (now (slice .exit) ≡ reading (now (tape .entry)) (now (slice .entry))) ⌝ }
 {
-    reader::fill(tape, slice)
+    tape_fill::fill(tape, slice)
 }

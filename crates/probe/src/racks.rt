@@ -1,16 +1,16 @@
 // T, the step at a position and held, for a test program to link.
 ghost use mathlib.Core.Path.{_≡_};
 ghost use lib.ListN.{length};
-ghost use Rattle.slices.specs.Racks.{planFrom, countRefusal, stepRefusal, holdRefusal, counted, stepped, held};
-use boards::types::Counted;
-use boards::types::Held;
-use checks::plan_refusal;
-use holds::holds::held;
-use rack::steps::step_at;
-use slices::plan_from;
-use slices::put_number;
-use slices::put_step;
-use tallies::counts::step_count;
+ghost use Rattle.campaign_slices.specs.Racks.{planFrom, countRefusal, stepRefusal, holdRefusal, counted, stepped, held};
+use campaign_slices::plan_from;
+use campaign_slices::put_number;
+use campaign_slices::put_step;
+use plan_check::plan_refusal;
+use rack_count::counts::step_count;
+use rack_find::steps::step_at;
+use rack_held::holds::held;
+use rack_spec::types::Counted;
+use rack_spec::types::Held;
 
 // T: the answer is 0 or the refusal, and a slice of one cell gets the number of steps.
 #[no_mangle]

@@ -1,15 +1,15 @@
 // Step, view and gather on lent memory, for a test program to link. A plan comes in two slices, as for the step at a position.
 ghost use mathlib.Core.Path.{_≡_};
 ghost use lib.ListN.{length};
-ghost use Rattle.memory.specs.Entries.{gatherRefusal, gathering};
-ghost use Rattle.slices.specs.Racks.{planFrom};
+ghost use Rattle.run_spec.specs.Entries.{gatherRefusal, gathering};
+ghost use Rattle.campaign_slices.specs.Racks.{planFrom};
 ghost use Rattle.probe.specs.Runs.{ran, running, showRefusal, showing};
-use engine::stepping::step;
-use gathers::copying::gather;
-use slices::plan_from;
-use slices::put_step;
-use views::viewing::view;
-use views::viewing::view_refusal;
+use campaign_slices::plan_from;
+use campaign_slices::put_step;
+use run_gather::copying::gather;
+use run_step::stepping::step;
+use run_view::viewing::view;
+use run_view::viewing::view_refusal;
 
 // Copies cells to a slice of as many.
 fn copy_cells(part: &[i64], cells: &mut [i64])

@@ -9,9 +9,9 @@ use lib.IntN.{ℤ, pos, negsuc, natAbs}
 use lib.ListN.{length, List·getD-eq-default}
 use mir.Val.{SFits}
 use mir.Syntax.{w32}
-use Rattle.cube.proofs.Sums.{by}
-use Rattle.memory.specs.Memory.{read}
-use Rattle.grouping.specs.Grouped.{Small}
+use Rattle.cube_spec.proofs.Sums.{by}
+use Rattle.run_spec.specs.Memory.{read}
+use Rattle.totals_group.specs.Grouped.{Small}
 
 pub within : (z : ℤ) → SFits w32 z → natAbs z ≤ 2 ^ 31
 within (pos n) f = let s = f .sfits in omega arith

@@ -12,27 +12,27 @@ use denote.Ref.{now}
 use contract.Lifetimes.{Lfts}
 use borrow.Fn.World.{ArgsD, ResD}
 use denote.Triple.Clauses.{AtExit}
-use Rattle.cube.proofs.Sums.{by}
-use Rattle.planner.specs.Plans.{PlanLists}
-use Rattle.planner.specs.declared.types.Planned.{Planned}
-use Rattle.boards.specs.Steps.{TreeStep, expand, transfer, finish}
-use Rattle.tape.specs.Tapes.{Campaign, campaign}
-use Rattle.tape.specs.Reading.{orEmpty}
-use Rattle.report.specs.Text.{text}
-use Rattle.report.specs.Printed as Printed
-use Rattle.report.specs.Printed.{planLine, dimLine, dimLines, groupLine, groupLines, endLine, refusedLine, report, reportOr, programRefusal, printedLines, lineAt, joined, printed}
-use Rattle.campaigns.specs.Judging.{judging}
-use Rattle.handing.specs.Standing.{campaignOf, Stands}
-use Rattle.grouping.specs.Grouped.{Small}
-use Rattle.handing.proofs.Lined.{begins, lines-few}
-use Rattle.campaigns.proofs.judging.judge as judge
-use Rattle.campaigns.proofs.judging.judge.Reads as judge-reads
+use Rattle.cube_spec.proofs.Sums.{by}
+use Rattle.plan_spec.specs.Plans.{PlanLists}
+use Rattle.plan_spec.specs.declared.types.Planned.{Planned}
+use Rattle.rack_spec.specs.Steps.{TreeStep, expand, transfer, finish}
+use Rattle.tape_spec.specs.Tapes.{Campaign, campaign}
+use Rattle.tape_spec.specs.Reading.{orEmpty}
+use Rattle.report_spec.specs.Text.{text}
+use Rattle.report_spec.specs.Printed as Printed
+use Rattle.report_spec.specs.Printed.{planLine, dimLine, dimLines, groupLine, groupLines, endLine, refusedLine, report, reportOr, programRefusal, printedLines, lineAt, joined, printed}
+use Rattle.totals_check.specs.Judging.{judging}
+use Rattle.totals_line.specs.Standing.{campaignOf, Stands}
+use Rattle.totals_group.specs.Grouped.{Small}
+use Rattle.totals_line.proofs.Lined.{begins, lines-few}
+use Rattle.totals_check.proofs.judging.judge as judge
+use Rattle.totals_check.proofs.judging.judge.Reads as judge-reads
 use Rattle.totals.proofs.loading.load as load
 use Rattle.totals.proofs.loading.load.Reads as load-reads
 use Rattle.totals.proofs.loading.bounded as bounded
 use Rattle.totals.proofs.loading.bounded.Reads as bounded-reads
-use Rattle.handing.proofs.next_line.{signature, ended}
-use Rattle.handing.proofs.next_line.Reads as reads
+use Rattle.totals_line.proofs.next_line.{signature, ended}
+use Rattle.totals_line.proofs.next_line.Reads as reads
 
 -- ---- every line of a report has bytes
 

@@ -2,13 +2,13 @@
 ghost use mathlib.Core.Path.{_≡_};
 ghost use Prim.Native.Nat.{_≤_};
 ghost use lib.ListN.{length, take};
-ghost use Rattle.campaigns.specs.Judging.{judging};
-ghost use Rattle.tape.specs.Reading.{reading};
-ghost use Rattle.handing.specs.Standing.{campaignOf};
-ghost use Rattle.grouping.specs.Grouped.{Small};
-use planner::types::Planned;
-use reader::fill;
-use refusals::points_of;
+ghost use Rattle.totals_check.specs.Judging.{judging};
+ghost use Rattle.tape_spec.specs.Reading.{reading};
+ghost use Rattle.totals_line.specs.Standing.{campaignOf};
+ghost use Rattle.totals_group.specs.Grouped.{Small};
+use plan_spec::types::Planned;
+use run_check::points_of;
+use tape_fill::fill;
 
 // Reads every point, which fits its type.
 pub fn bounded(points: &[i32])

@@ -2,14 +2,14 @@
 ghost use mathlib.Core.Path.{_≡_};
 ghost use Prim.Native.Nat.{_≤_};
 ghost use lib.ListN.{length};
-ghost use Rattle.campaigns.specs.Judging.{judging};
-ghost use Rattle.handing.specs.Standing.{campaignOf};
-ghost use Rattle.grouping.specs.Grouped.{Small};
+ghost use Rattle.totals_check.specs.Judging.{judging};
+ghost use Rattle.totals_line.specs.Standing.{campaignOf};
+ghost use Rattle.totals_group.specs.Grouped.{Small};
 use crate::loading::bounded;
 use crate::loading::load;
-use campaigns::judging::judge;
-use handing::next_line;
-use planner::types::Planned;
+use plan_spec::types::Planned;
+use totals_check::judging::judge;
+use totals_line::next_line;
 
 // Writes the first bytes of a buffer; gives whether all of them were written.
 fn write(out: &[u8], used: usize) -> bool

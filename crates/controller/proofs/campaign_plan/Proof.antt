@@ -3,11 +3,11 @@ use mathlib.Core.Path.{_≡_, _∙_, ap, sym, refl}
 use mathlib.Core.List.{List}
 use native.Mathlib.Omega.{arith}
 use lib.ListN.{length, take}
-use Rattle.cube.proofs.Slots.{padded-take}
-use Rattle.planner.specs.Refusals.{planningRefusal}
-use Rattle.planner.proofs.Accepting.{planning-accepted}
-use Rattle.planner.proofs.Places.{order-length}
-use Rattle.planner.proofs.Chosen.{exponents-length}
+use Rattle.cube_spec.proofs.Slots.{padded-take}
+use Rattle.plan_spec.specs.Refusals.{planningRefusal}
+use Rattle.plan_spec.proofs.Accepting.{planning-accepted}
+use Rattle.plan_spec.proofs.Places.{order-length}
+use Rattle.plan_spec.proofs.Chosen.{exponents-length}
 use Rattle.controller.specs.Bytes.{pairs}
 use Rattle.controller.proofs.Pairing.{pairs-length, refuses-odd, refuses-many, refuses-planning, refuses-result, refuses-nothing, left, put-both, arrays}
 use borrow.Author.Needs.{needs}
@@ -17,8 +17,8 @@ use Rattle.controller.proofs.campaign_plan.Reads as reads
 use Rattle.controller.proofs.campaign_plan.Lts as lts
 use Rattle.controller.proofs.lengths_of.Reads as lengths-of-reads
 use Rattle.controller.proofs.put.Reads as put-reads
-use Rattle.planning.proofs.planning.planning_refusal.Reads as planning-refusal-reads
-use Rattle.rules.proofs.rule.arrange.Reads as arrange-reads
+use Rattle.plan_entry.proofs.planning.planning_refusal.Reads as planning-refusal-reads
+use Rattle.plan_rule.proofs.rule.arrange.Reads as arrange-reads
 
 -- src/lib.rt:57:9
 returns : tie.Need-returns

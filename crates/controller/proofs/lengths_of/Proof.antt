@@ -3,9 +3,9 @@ use Prim.Native.Nat.{ℕ, _≤_, _<_, _-_, _+_, _*_}
 use mathlib.Core.Path.{_≡_, _∙_, ap, sym, refl}
 use native.Mathlib.Omega.{arith}
 use lib.ListN.{length, set, getD}
-use Rattle.cube.specs.Limits.{padded}
-use Rattle.cube.specs.Boxes.{table, tableFrom}
-use Rattle.cube.proofs.Slots.{padded-next}
+use Rattle.cube_spec.specs.Limits.{padded}
+use Rattle.cube_spec.specs.Boxes.{table, tableFrom}
+use Rattle.cube_spec.proofs.Slots.{padded-next}
 use Rattle.controller.specs.Bytes.{pairs}
 use Rattle.controller.proofs.Pairing.{pairs-at, pairs-slots}
 use Rattle.controller.proofs.lengths_of.Statement.{statement}

@@ -4,7 +4,7 @@ use native.Mathlib.Omega.{arith}
 use borrow.Author.Needs.{needs}
 use lib.ListN.{length, length-set}
 use lib.Seq.{length-sets}
-use Rattle.slices.proofs.Laws as laws
+use Rattle.campaign_slices.proofs.Laws as laws
 use Rattle.probe.proofs.tape_scan.Tie as tie
 use Rattle.probe.proofs.tape_scan.Statement.{statement}
 

@@ -1,9 +1,9 @@
 -- `probe::racks::rack_count` meets its contract.
 use mathlib.Core.Path.{ap, sym, _∙_}
 use borrow.Author.Needs.{needs}
-use Rattle.boards.specs.Answers.{countedReply}
-use Rattle.boards.specs.declared.types.Counted.{Counted}
-use Rattle.slices.proofs.Racking as racking
+use Rattle.rack_spec.specs.Answers.{countedReply}
+use Rattle.rack_spec.specs.declared.types.Counted.{Counted}
+use Rattle.campaign_slices.proofs.Racking as racking
 use Rattle.probe.proofs.racks.rack_count.Tie as tie
 use Rattle.probe.proofs.racks.rack_count.Statement.{statement}
 

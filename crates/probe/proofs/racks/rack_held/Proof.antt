@@ -1,9 +1,9 @@
 -- `probe::racks::rack_held` meets its contract.
 use mathlib.Core.Path.{ap, sym, _∙_}
 use borrow.Author.Needs.{needs}
-use Rattle.boards.specs.Answers.{heldReply}
-use Rattle.boards.specs.declared.types.Held.{Held}
-use Rattle.slices.proofs.Racking as racking
+use Rattle.rack_spec.specs.Answers.{heldReply}
+use Rattle.rack_spec.specs.declared.types.Held.{Held}
+use Rattle.campaign_slices.proofs.Racking as racking
 use Rattle.probe.proofs.racks.rack_held.Tie as tie
 use Rattle.probe.proofs.racks.rack_held.Statement.{statement}
 

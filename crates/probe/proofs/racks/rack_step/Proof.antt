@@ -1,7 +1,7 @@
 -- `probe::racks::rack_step` meets its contract.
 use mathlib.Core.Path.{sym, _∙_}
 use borrow.Author.Needs.{needs}
-use Rattle.slices.proofs.Racking as racking
+use Rattle.campaign_slices.proofs.Racking as racking
 use Rattle.probe.proofs.racks.rack_step.Tie as tie
 use Rattle.probe.proofs.racks.rack_step.Statement.{statement}
 

@@ -6,7 +6,7 @@ use borrow.Author.Needs.{needs}
 use lib.ListN.{length}
 use lib.IntN.{natAbs}
 use Rattle.totals.proofs.Bounds.{within, bounded-more, bounded-all}
-use Rattle.memory.specs.Memory.{read}
+use Rattle.run_spec.specs.Memory.{read}
 use Rattle.totals.proofs.loading.bounded.Statement.{statement}
 use Rattle.totals.proofs.loading.bounded.Tie as tie
 use Rattle.totals.proofs.loading.bounded.Reads as reads

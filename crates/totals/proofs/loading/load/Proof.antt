@@ -1,13 +1,13 @@
 use mathlib.Core.Path.{refl}
 use native.Mathlib.Omega.{arith}
-use Rattle.campaigns.proofs.Taken.{plan-passed, loaded, loaded-fits}
+use Rattle.totals_check.proofs.Taken.{plan-passed, loaded, loaded-fits}
 use borrow.Author.Needs.{needs}
 use Rattle.totals.proofs.loading.load.Statement.{statement}
 use Rattle.totals.proofs.loading.load.Tie as tie
 use Rattle.totals.proofs.loading.load.Reads as reads
 use Rattle.totals.proofs.loading.load.Lts as lts
-use Rattle.refusals.proofs.points_of.Reads as points-of-reads
-use Rattle.reader.proofs.fill.Reads as fill-reads
+use Rattle.run_check.proofs.points_of.Reads as points-of-reads
+use Rattle.tape_fill.proofs.fill.Reads as fill-reads
 
 -- src/loading.rt:29:9
 returns : tie.Need-returns

@@ -7,7 +7,7 @@ use Rattle.totals.proofs.writing.print.Statement.{statement}
 use Rattle.totals.proofs.writing.print.Tie as tie
 use Rattle.totals.proofs.writing.print.Reads as reads
 use Rattle.totals.proofs.writing.print.Lts as lts
-use Rattle.campaigns.proofs.judging.judge.Reads as judge-reads
+use Rattle.totals_check.proofs.judging.judge.Reads as judge-reads
 use Rattle.totals.proofs.writing.print_loaded.Reads as print-loaded-reads
 use Rattle.totals.proofs.loading.load.Reads as load-reads
 

@@ -4,14 +4,14 @@ use mathlib.Core.Path.{_≡_, sym, _∙_, refl, ap}
 use native.Mathlib.Omega.{arith}
 use borrow.Author.Needs.{needs}
 use lib.ListN.{length}
-use Rattle.report.specs.Printed.{printedLines}
-use Rattle.handing.specs.Standing.{Stands}
-use Rattle.handing.proofs.Lined.{begins, lines-few, line-some}
+use Rattle.report_spec.specs.Printed.{printedLines}
+use Rattle.totals_line.specs.Standing.{Stands}
+use Rattle.totals_line.proofs.Lined.{begins, lines-few, line-some}
 use Rattle.totals.proofs.writing.print_lines.Statement.{statement}
 use Rattle.totals.proofs.writing.print_lines.Tie as tie
 use Rattle.totals.proofs.writing.print_lines.Reads as reads
 use Rattle.totals.proofs.writing.print_lines.Lts as lts
-use Rattle.handing.proofs.next_line.Reads as next-line-reads
+use Rattle.totals_line.proofs.next_line.Reads as next-line-reads
 use Rattle.totals.proofs.writing.write.Reads as write-reads
 
 abbrev Inv-loop : tie.InvT-loop

@@ -1,0 +1,66 @@
+-- T, the step at a position and held as the probe hands them out: the plan that two slices hold, the refusals, and the cells that are written.
+use Prim.Native.Nat.{ℕ}
+use mathlib.Core.Bool.{_&&_, not}
+use mathlib.Core.List.{List, [], _∷_, _++_}
+use lib.Dec.{eqb}
+use lib.ListN.{length, getD, take, drop}
+use Rattle.cube_spec.specs.Boxes.{pick}
+use Rattle.cube_spec.specs.Checks.{Check, check, first}
+use Rattle.plan_spec.specs.declared.types.Plan.{Plan}
+use Rattle.plan_spec.specs.Plans.{stepCount, listsOf, slotted}
+use Rattle.plan_spec.specs.Refusals.{planChecks}
+use Rattle.rack_spec.specs.Steps.{steps}
+use Rattle.rack_spec.specs.Held as Held
+use Rattle.rack_spec.specs.Finding.{planGrid}
+use Rattle.rack_spec.specs.Answers.{Told, expands, transfers, finishes, done, refused, toldAt, heldChecks}
+use Rattle.campaign_slices.specs.Probing.{writtenOr}
+
+-- ---- the plan
+
+-- a plan of no axes, which check 3 refuses
+unfoldable pub noPlan : Plan
+noPlan = slotted (record { lengths = []; order = []; exponents = []; p = 0 })
+
+-- the first slice has the axes, p, eight slots of the order and eight of the exponents, the second has eight lengths; slices of other lengths hold no plan
+unfoldable pub planFrom : List ℕ → List ℕ → Plan
+planFrom small lengths =
+    pick
+    (eqb (length small) 18 && eqb (length lengths) 8)
+    (record { axes = getD small 0 0; p = getD small 1 0; lengths = lengths; order = take 8 (drop 2 small); exponents = take 8 (drop 10 small) })
+    noPlan
+
+-- ---- the refusals
+
+-- some checks, and then 13 for "a lent result slice has the wrong length": `lent` cells where `due` are to be written
+unfoldable pub lentRefusal : List Check → ℕ → ℕ → ℕ
+lentRefusal checks due lent = first (checks ++ (check 13 (not (eqb lent due)) ∷ []))
+
+unfoldable pub countRefusal : Plan → ℕ → ℕ
+countRefusal q lent = lentRefusal (planChecks q) 1 lent
+
+unfoldable pub stepRefusal : Plan → ℕ → ℕ
+stepRefusal q lent = lentRefusal (planChecks q) 5 lent
+
+unfoldable pub holdRefusal : Plan → ℕ → ℕ → ℕ → ℕ
+holdRefusal q at b lent = lentRefusal (heldChecks q at b) 1 lent
+
+-- ---- the cells
+
+-- a step: its kind, the sender, the receiver, the choice's mask, the values
+abbrev pub cellsTold : Told → List ℕ
+cellsTold (expands m) = 1 ∷ 0 ∷ 0 ∷ m ∷ 0 ∷ []
+cellsTold (transfers s r m n) = 2 ∷ s ∷ r ∷ m ∷ n ∷ []
+cellsTold (finishes m) = 3 ∷ 0 ∷ 0 ∷ m ∷ 0 ∷ []
+cellsTold done = 4 ∷ 0 ∷ 0 ∷ 0 ∷ 0 ∷ []
+-- no step of a list is told so
+cellsTold (refused n) = 5 ∷ 0 ∷ 0 ∷ 0 ∷ n ∷ []
+
+-- the lent slice afterwards: the cells, or as it was on a refusal
+unfoldable pub counted : Plan → List ℕ → List ℕ
+counted q out = writtenOr (countRefusal q (length out)) (stepCount (listsOf q) ∷ []) out
+
+unfoldable pub stepped : Plan → ℕ → List ℕ → List ℕ
+stepped q at out = writtenOr (stepRefusal q (length out)) (cellsTold (toldAt (planGrid q) (steps (planGrid q)) at)) out
+
+unfoldable pub held : Plan → ℕ → ℕ → List ℕ → List ℕ
+held q at b out = writtenOr (holdRefusal q at b (length out)) (Held.held (planGrid q) at b ∷ []) out

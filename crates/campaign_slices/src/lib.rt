@@ -1,0 +1,135 @@
+// Plans, steps and numbers in slices that a test program lends. A plan comes in two: the axes, p, the order's slots and the exponents' in one,
+// the lengths' slots in the other.
+ghost use mathlib.Core.Path.{_≡_};
+ghost use mathlib.Core.List.{[], _∷_};
+ghost use Prim.Native.Nat.{_+_, _≤_};
+ghost use lib.ListN.{length, take, drop};
+ghost use lib.Seq.{sets};
+ghost use Rattle.rack_spec.specs.Answers.{told};
+ghost use Rattle.campaign_slices.specs.Probing.{cells, writtenOr};
+ghost use Rattle.campaign_slices.specs.Racks.{noPlan, planFrom, lentRefusal, cellsTold};
+use plan_spec::types::Plan;
+use rack_spec::types::Step;
+
+// Puts the lengths in the cells from 3 on.
+pub fn put(out: &mut [u64], lengths: [u32; 8])
+    requires { ⌜ length (now out) ≡ cells ⌝ }
+    ensures { λ _. ⌜ now (out .exit) ≡ sets (now (out .entry)) 3 lengths ⌝ }
+{
+    for i in 0..8 {
+        out[3 + i] = lengths[i] as u64;
+    }
+}
+
+// Eight bytes of a slice.
+fn bytes_from(small: &[u8], from: usize) -> [u8; 8]
+    requires { ⌜ from + 8 ≤ length (now small) ⌝ }
+    ensures { λ r. ⌜ r ≡ take 8 (drop from (now (small .entry))) ⌝ }
+{
+    let mut slots = [0u8; 8];
+    for i in 0..8 {
+        slots[i] = small[from + i];
+    }
+    slots
+}
+
+// Eight lengths.
+fn lengths_from(lengths: &[u32]) -> [u32; 8]
+    requires { ⌜ length (now lengths) ≡ 8 ⌝ }
+    ensures { λ r. ⌜ r ≡ now (lengths .entry) ⌝ }
+{
+    let mut slots = [0u32; 8];
+    for i in 0..8 {
+        slots[i] = lengths[i];
+    }
+    slots
+}
+
+// A plan of no axes.
+fn no_plan() -> Plan
+    ensures { λ r. ⌜ r ≡ noPlan ⌝ }
+{
+    Plan {
+        axes: 0,
+        p: 0,
+        lengths: [0u32; 8],
+        order: [0u8; 8],
+        exponents: [0u8; 8],
+    }
+}
+
+// The plan that two slices hold.
+pub fn plan_from(small: &[u8], lengths: &[u32]) -> Plan
+    ensures { λ r. ⌜ r ≡ planFrom (now (small .entry)) (now (lengths .entry)) ⌝ }
+{
+    if small.len() != 18 {
+        return no_plan();
+    }
+    if lengths.len() != 8 {
+        return no_plan();
+    }
+    let slots = lengths_from(lengths);
+    let order = bytes_from(small, 2);
+    let exponents = bytes_from(small, 10);
+    Plan {
+        axes: small[0],
+        p: small[1],
+        lengths: slots,
+        order,
+        exponents,
+    }
+}
+
+// A step in five cells.
+fn cells_of(step: Step) -> [u64; 5]
+    ensures { λ r. ⌜ r ≡ cellsTold (told step) ⌝ }
+{
+    match step {
+        Step::Expand(choice) => [1, 0, 0, choice.mask as u64, 0],
+        Step::Transfer(t) => [
+            2,
+            t.sender as u64,
+            t.receiver as u64,
+            t.choice.mask as u64,
+            t.values,
+        ],
+        Step::Finish(choice) => [3, 0, 0, choice.mask as u64, 0],
+        Step::Done => [4, 0, 0, 0, 0],
+        Step::Refused(n) => [5, 0, 0, 0, n as u64],
+    }
+}
+
+// Puts five cells in a slice of as many.
+fn put_cells(out: &mut [u64], cells: [u64; 5])
+    requires { ⌜ length (now out) ≡ 5 ⌝ }
+    ensures { λ _. ⌜ now (out .exit) ≡ cells ⌝ }
+{
+    for i in 0..5 {
+        out[i] = cells[i];
+    }
+}
+
+// Puts a step in a slice of five cells.
+pub fn put_step(out: &mut [u64], step: Step) -> u8
+    ensures { λ r. ⌜ (r ≡ lentRefusal [] 5 (length (now (out .entry))))
+        × (now (out .exit) ≡ writtenOr r (cellsTold (told step)) (now (out .entry))) ⌝ }
+{
+    if out.len() != 5 {
+        return 13;
+    }
+    let cells = cells_of(step);
+    put_cells(out, cells);
+    0
+}
+
+// Puts a number in a slice of one cell.
+pub fn put_number(out: &mut [u64], n: u64) -> u8
+    ensures { λ r. ⌜ (r ≡ lentRefusal [] 1 (length (now (out .entry))))
+        × (now (out .exit) ≡ writtenOr r (n ∷ []) (now (out .entry))) ⌝ }
+{
+    if out.len() != 1 {
+        return 13;
+    }
+    out[0] = n;
+    0
+}

@@ -1,0 +1,86 @@
+-- `put_every` meets its contract. The invariant: the first i cells are copied.
+use borrow.Author.Needs.{needs}
+use Prim.Native.Nat.{_≤_, _-_, _+_, _*_}
+use mathlib.Core.Path.{_≡_, refl}
+use native.Mathlib.Omega.{arith}
+use lib.ListN.{length, getD}
+use lib.IntN.{pos}
+use mir.Facts.{toZ-ofZ}
+use mir.Val.{SFits}
+use mir.Syntax.{w64}
+use Rattle.cell_spec.specs.Rows.{from, placed}
+use Rattle.cell_spec.proofs.Placing.{placed-more}
+use Rattle.cell_spec.proofs.Writing.{row-fits}
+use Rattle.cell_copy.proofs.put_every.Statement.{statement}
+use Rattle.cell_copy.proofs.put_every.Tie as tie
+
+abbrev Inv-loop : tie.InvT-loop
+Inv-loop result₀ work src at step n i₀ result i = (i ≤ n) × (length result ≡ length result₀) × (result ≡ placed result₀ i (λ i. at + i * step) (from work src))
+
+abbrev μ-loop : tie.MeasureT-loop
+μ-loop result₀ work src at step n i₀ result i = n - i
+
+loop-holds : tie.Need-loop-holds Inv-loop μ-loop
+unfolding placed
+loop-holds c = (search needs, refl, refl)
+
+add-x : tie.Need-add-x Inv-loop μ-loop
+add-x c = search needs
+
+mul-x : tie.Need-mul-x Inv-loop μ-loop
+mul-x c = search needs
+
+shared-slice-copy-out-x : tie.Need-shared-slice-copy-out-x Inv-loop μ-loop
+shared-slice-copy-out-x c = search needs
+
+mul-x-2 : tie.Need-mul-x-2 Inv-loop μ-loop
+mul-x-2 c = let l = c .before .before in let a = l .before .args in let r = row-fits (l .loop .i) (a .n) (a .step) (omega arith) in omega arith
+
+add-x-2 : tie.Need-add-x-2 Inv-loop μ-loop
+add-x-2 c = let l = c .before .before in let a = l .before .args in let r = row-fits (l .loop .i) (a .n) (a .step) (omega arith) in omega arith
+
+mul-x-3 : tie.Need-mul-x-3 Inv-loop μ-loop
+mul-x-3 c = let l = c .before .before in let a = l .before .args in let r = row-fits (l .loop .i) (a .n) (a .step) (omega arith) in omega arith
+
+slice-set-from-x : tie.Need-slice-set-from-x Inv-loop μ-loop
+slice-set-from-x c = let l = c .before .before in let a = l .before .args in let r = row-fits (l .loop .i) (a .n) (a .step) (omega arith) in omega arith
+
+add-i : tie.Need-add-i Inv-loop μ-loop
+add-i c = search needs
+
+loop-less : tie.Need-loop-less Inv-loop μ-loop
+loop-less c = search needs
+
+loop-again : tie.Need-loop-again Inv-loop μ-loop
+unfolding from
+loop-again c =
+    let l = c .before .before in
+    let a = l .before .args in
+    let f : SFits w64 (getD (a .work .now) (a .src + l .loop .i) (pos 0)) = record { sfits = c .x .given } in
+    (search needs, search needs, rw (toZ-ofZ f, l .loop .inv .2) (placed-more _ _ (λ i. a .at + i * a .step) _ _ refl))
+
+same-length : tie.Need-same-length Inv-loop μ-loop
+same-length c = search needs
+
+returns : tie.Need-returns Inv-loop μ-loop
+returns c = let q : c .before .loop .i ≡ c .before .before .args .n = omega arith in rw q at (c .before .loop .inv .2)
+
+pub put-every-spec : {M : Type 1} → statement M
+put-every-spec =
+    tie.close
+    (tie.spec
+    Inv-loop
+    μ-loop
+    loop-holds
+    add-x
+    mul-x
+    shared-slice-copy-out-x
+    mul-x-2
+    add-x-2
+    mul-x-3
+    slice-set-from-x
+    add-i
+    loop-less
+    loop-again
+    same-length
+    returns)

@@ -1,0 +1,146 @@
+-- The definitions of this layer, computed: the worked example's choices and totals, the paper's prices, and small boxes.
+use Prim.Native.Nat.{ℕ, zero, suc, _^_, _<_, _≤_}
+use mathlib.Core.Path.{_≡_, refl}
+use mathlib.Core.Bool.{Bool, true, false}
+use mathlib.Core.List.{List, [], _∷_}
+use native.Mathlib.Omega.{arith}
+use lib.ListN.{length, getD}
+use lib.IntN.{ℤ, pos, negsuc}
+use Rattle.cube_spec.specs.Computing.{computing}
+use Rattle.cube_spec.specs.Limits.{padded}
+use Rattle.cube_spec.specs.Bytes.{little}
+use Rattle.cube_spec.specs.Boxes.{pick, table, product, place, position, put}
+use Rattle.cube_spec.specs.Choices.{keeps, fullMask, withoutMask, withMask, grandMask, cells, points, totals}
+use Rattle.cube_spec.specs.Portions.{portionStart, ceiling}
+use Rattle.cube_spec.specs.Tree.{has, children, overSets, moved, added, weight, weighted, regionSize, regionStart, shareSize, stepCount}
+use Rattle.cube_spec.specs.Ways.{Way, Division, movedBy, addedBy, log2, room}
+use Rattle.cube_spec.specs.Checks.{check, first, answered, gives, refuses, Reply}
+
+abbrev at : List ℕ → ℕ → ℕ
+at l i = getD l i 0
+
+-- ---- bytes
+
+bytes : (little (2 ∷ 1 ∷ []) ≡ 258) × (little (0 ∷ 0 ∷ 0 ∷ 128 ∷ []) ≡ 2147483648) × (padded (7 ∷ 8 ∷ []) ≡ (7 ∷ 8 ∷ 0 ∷ 0 ∷ 0 ∷ 0 ∷ 0 ∷ 0 ∷ []))
+unfolding computing
+bytes = (refl, refl, refl)
+
+-- ---- boxes: three axes of extents 2, 3 and 4
+
+boxes : (product (at (2 ∷ 3 ∷ 4 ∷ [])) 3 0 ∷ place (at (2 ∷ 3 ∷ 4 ∷ [])) (at (1 ∷ 2 ∷ 3 ∷ [])) 3 0 ∷ place (at (2 ∷ 3 ∷ 4 ∷ [])) (put (at (1 ∷ 2 ∷ 3 ∷ [])) 1 0) 3 0 ∷ table 3 (position (at (2 ∷ 3 ∷ 4 ∷ [])) 3 0 17)) ≡ (24 ∷ 23 ∷ 15 ∷ 1 ∷ 1 ∷ 1 ∷ [])
+unfolding computing
+boxes = refl
+
+-- ---- choices of three axes
+
+kept-axes : (table 4 (keeps 5) ≡ true ∷ false ∷ true ∷ false ∷ [])
+    × (fullMask 3 ≡ 7)
+    × (withoutMask 5 2 ≡ 1)
+    × (withoutMask 5 1 ≡ 5)
+    × (withMask 5 1 ≡ 7)
+    × (withMask 5 0 ≡ 5)
+    × (cells (2 ∷ 3 ∷ []) grandMask ≡ 1)
+unfolding computing
+kept-axes = (refl, refl, refl, refl, refl, refl, refl)
+
+cells-of : (points (2 ∷ 3 ∷ 5 ∷ []) ≡ 30)
+    × (table 8 (cells (2 ∷ 3 ∷ 5 ∷ [])) ≡ 1 ∷ 2 ∷ 3 ∷ 6 ∷ 5 ∷ 10 ∷ 15 ∷ 30 ∷ [])
+unfolding computing
+cells-of = (refl, refl)
+
+-- the worked example: lengths 2 and 3, points 1 −2 3 4 5 −6
+example : ℕ → ℤ
+example i = getD (pos 1 ∷ negsuc 1 ∷ pos 3 ∷ pos 4 ∷ pos 5 ∷ negsuc 5 ∷ []) i (pos 0)
+
+example-totals : table 3 (totals (2 ∷ 3 ∷ []) example) ≡ ((pos 5 ∷ []) ∷ (pos 2 ∷ pos 3 ∷ []) ∷ (pos 5 ∷ pos 3 ∷ negsuc 2 ∷ []) ∷ [])
+unfolding computing example
+example-totals = refl
+
+-- ---- portions: 5 in 2, and 7 in 4
+
+portions : (table 3 (portionStart 5 2) ≡ 0 ∷ 2 ∷ 5 ∷ [])
+    × (table 5 (portionStart 7 4) ≡ 0 ∷ 1 ∷ 3 ∷ 5 ∷ 7 ∷ [])
+    × (ceiling 5 2 ≡ 3)
+    × (ceiling 7 4 ≡ 2)
+    × (ceiling 8 4 ≡ 2)
+unfolding computing
+portions = (refl, refl, refl, refl, refl)
+
+-- ---- the tree
+
+tree : (children 4 [] ≡ (0 ∷ []) ∷ (1 ∷ []) ∷ (2 ∷ []) ∷ (3 ∷ []) ∷ [])
+    × (children 4 (1 ∷ []) ≡ (2 ∷ 1 ∷ []) ∷ (3 ∷ 1 ∷ []) ∷ [])
+    × (children 4 (3 ∷ 1 ∷ []) ≡ [])
+    × (overSets 4 (λ Y. 1) ≡ 15)
+    × (overSets 3 (λ Y. pick (has Y 1) 1 0) ≡ 4)
+unfolding computing
+tree = (refl, refl, refl, refl, refl)
+
+-- P5 and P6: lengths and exponents in plan order
+moves : (moved 3 (at (2 ∷ 2 ∷ 2 ∷ [])) (at (1 ∷ 1 ∷ 0 ∷ [])) ∷ moved 3 (at (2 ∷ 2 ∷ 2 ∷ [])) (at (0 ∷ 1 ∷ 1 ∷ [])) ∷ moved 2 (at (4 ∷ 2 ∷ [])) (at (0 ∷ 1 ∷ [])) ∷ moved 2 (at (2 ∷ 4 ∷ [])) (at (1 ∷ 0 ∷ [])) ∷ moved 2 (at (4 ∷ 2 ∷ [])) (at (1 ∷ 0 ∷ [])) ∷ weighted 2 (at (4 ∷ 2 ∷ [])) (at (0 ∷ 1 ∷ [])) ∷ []) ≡ (10 ∷ 15 ∷ 5 ∷ 4 ∷ 2 ∷ 5 ∷ [])
+unfolding computing
+moves = refl
+
+-- T of eight axes, three portions deep and one each: the most steps that there can be
+most-steps : stepCount 8 (at (3 ∷ 1 ∷ 1 ∷ 1 ∷ 1 ∷ 1 ∷ 1 ∷ 1 ∷ [])) 10 ≡ 19810
+unfolding computing
+most-steps = refl
+
+-- P8, P2 and P1: cells added up, A and T
+prices : (added 2 (at (3 ∷ 3 ∷ [])) ∷ added 2 (at (3 ∷ 2 ∷ [])) ∷ weight 2 (at (3 ∷ 2 ∷ [])) 0 ∷ weight 2 (at (3 ∷ 2 ∷ [])) 1 ∷ shareSize 2 (at (2 ∷ 2 ∷ [])) ∷ shareSize 1 (at (2 ∷ [])) ∷ regionSize 2 (at (5 ∷ 7 ∷ [])) 0 ∷ regionStart 2 (at (5 ∷ 7 ∷ [])) 1 ∷ stepCount 2 (at (1 ∷ 0 ∷ [])) 1 ∷ stepCount 1 (at (2 ∷ [])) 2 ∷ []) ≡ (21 ∷ 14 ∷ 2 ∷ 4 ∷ 4 ∷ 1 ∷ 7 ∷ 7 ∷ 6 ∷ 5 ∷ [])
+unfolding computing
+prices = refl
+
+-- ---- P6 as a way with a division: axes 4 and 2, the parents of the order 0, 1 and of the order 1, 0
+
+division : Division (4 ∷ 2 ∷ []) 1
+division = record { exponents = 0 ∷ 1 ∷ []; each = refl; fits = fits; sums = unfold computing in refl }
+  where
+    fits : (d : ℕ) → d < 2 → 2 ^ getD (0 ∷ 1 ∷ []) d 0 ≤ getD (4 ∷ 2 ∷ []) d 0
+    fits zero h = omega arith
+    fits (suc zero) h = omega arith
+    fits (suc (suc d)) h = absurd (omega arith)
+
+-- the axis that the parent of each mask has more
+way : (a b c : ℕ) → a < 2 → b < 2 → c < 2 → keeps 0 a ≡ false → keeps 1 b ≡ false → keeps 2 c ≡ false → Way 2
+way a b c ha hb hc ka kb kc = record { axis = axis; within = within; summed = summed }
+  where
+    axis : ℕ → ℕ
+    axis zero = a
+    axis (suc zero) = b
+    axis (suc (suc m)) = c
+
+    within : (mask : ℕ) → mask < fullMask 2 → axis mask < 2
+    within zero h = ha
+    within (suc zero) h = hb
+    within (suc (suc m)) h = hc
+
+    summed : (mask : ℕ) → mask < fullMask 2 → keeps mask (axis mask) ≡ false
+    summed zero h = ka
+    summed (suc zero) h = kb
+    summed (suc (suc zero)) h = kc
+    summed (suc (suc (suc m))) h = absurd (let q : suc (suc (suc m)) < 3 = (unfold computing in h) in omega arith)
+
+first-way : Way 2
+first-way = way 1 1 0 (omega arith) (omega arith) (omega arith) (unfold computing in refl) (unfold computing in refl) (unfold computing in refl)
+
+second-way : Way 2
+second-way = way 0 1 0 (omega arith) (omega arith) (omega arith) (unfold computing in refl) (unfold computing in refl) (unfold computing in refl)
+
+ways : (movedBy (4 ∷ 2 ∷ []) division first-way ∷ movedBy (4 ∷ 2 ∷ []) division second-way ∷ addedBy (4 ∷ 2 ∷ []) first-way ∷ addedBy (4 ∷ 2 ∷ []) second-way ∷ []) ≡ (5 ∷ 4 ∷ 18 ∷ 20 ∷ [])
+unfolding computing division way first-way second-way
+ways = refl
+
+rooms : (table 9 log2 ≡ 0 ∷ 0 ∷ 1 ∷ 1 ∷ 2 ∷ 2 ∷ 2 ∷ 2 ∷ 3 ∷ [])
+    × (room (5 ∷ 3 ∷ 1 ∷ []) ≡ 3)
+unfolding computing
+rooms = (refl, refl)
+
+-- ---- the first check that is due
+
+checks : (first (check 3 false ∷ check 5 true ∷ check 4 true ∷ []) ≡ 5)
+    × (first (check 3 false ∷ []) ≡ 0)
+    × (answered {A = ℕ} 0 7 ≡ gives 7)
+    × (answered {A = ℕ} 9 7 ≡ refuses 9)
+unfolding computing
+checks = (refl, refl, refl, refl)

@@ -1,0 +1,134 @@
+-- Demand 3 tied to the planner's own clause: whatever a call of `plan` returns with refusal 0, no way with any division over the same boards moves fewer values or
+-- adds fewer cells than it says, and the tree and the exponents of the returned plan move and add just that.
+use Prim.Native.Nat.{ℕ, zero, suc, _≤_, _<_}
+use mathlib.Core.Path.{_≡_, sym, _∙_, refl, ap, subst}
+use mathlib.Core.List.{List}
+use native.Mathlib.Omega.{arith}
+use lib.ListN.{length}
+use denote.Ref.{now}
+use contract.Lifetimes.{Lfts}
+use borrow.Fn.World.{ArgsD, ResD}
+use denote.Triple.Clauses.{AtExit}
+use Rattle.cube_spec.specs.Checks.{gives}
+use Rattle.cube_spec.specs.Choices.{fullMask, keeps}
+use Rattle.cube_spec.specs.Ways.{Way, Division, movedBy, addedBy}
+use Rattle.plan_spec.specs.declared.types.Planned.{Planned}
+use Rattle.plan_spec.specs.Plans as Plans
+use Rattle.plan_spec.specs.Plans.{PlanLists, Sound, listsOf, slotted}
+use Rattle.plan_spec.specs.Accepted.{PlanningAccepted}
+use Rattle.plan_spec.specs.Rule.{exponents, planOf}
+use Rattle.plan_spec.specs.Trees.{lastSummed, treeAxis}
+use Rattle.plan_spec.specs.Refusals.{planningRefusal, planRefusal}
+use Rattle.plan_spec.specs.Answers.{pricesOf, pricing, plannedAs, planning}
+use Rattle.plan_spec.proofs.Accepting.{planning-accepted, planned-accepted, lists-slotted}
+use Rattle.plan_spec.proofs.PricingLaws.{answer-given}
+use Rattle.plan_spec.proofs.Demand.{Least, demand, plan-sound}
+use Rattle.plan_entry.proofs.planning.plan.{signature, ended}
+use Rattle.plan_entry.proofs.planning.plan.Reads as reads
+
+-- what the planner's answer r says of the lengths l and p
+pub record Best (l : List ℕ) (p : ℕ) (r : Planned) : Type 0 where
+  pub moved-least : (e : Division l p) (w : Way (length l)) → r .prices .moved ≤ movedBy l e w
+  pub added-least : (w : Way (length l)) → r .prices .added ≤ addedBy l w
+  -- the returned plan's exponents are a division, and its tree is a way: a choice's parent has the last axis more, in the returned order, that the choice sums out
+  pub division : Division l p
+  pub way : Way (length l)
+  pub exponents : division .exponents ≡ listsOf (r .plan) .exponents
+  pub axes : (mask : ℕ) → mask < fullMask (length l) → way .axis mask ≡ lastSummed (keeps mask) 0 (listsOf (r .plan) .order)
+  pub moves : movedBy l division way ≡ r .prices .moved
+  pub adds : addedBy l way ≡ r .prices .added
+  -- pricing gives the returned plan the same prices
+  pub priced : pricing (r .plan) ≡ gives (r .prices)
+
+-- and the returned plan can be run: it passes every check, and its prices are its own
+pub record Runnable (l : List ℕ) (p : ℕ) (r : Planned) : Type 0 where
+  pub passed : planRefusal (r .plan) ≡ 0
+  pub sound : Sound (listsOf (r .plan))
+  pub some : 0 < length (listsOf (r .plan) .lengths)
+  pub same : listsOf (r .plan) .lengths ≡ l
+  pub boards : listsOf (r .plan) .p ≡ p
+  pub prices : r .prices ≡ pricesOf (listsOf (r .plan))
+
+refusal-of : (k : ℕ) (a : PlanLists) → plannedAs k a .refusal ≡ k
+refusal-of zero a = unfold plannedAs in refl
+refusal-of (suc k) a = unfold plannedAs in refl
+
+prices-of : (k : ℕ) (a : PlanLists) → k ≡ 0 → plannedAs k a .prices ≡ pricesOf a
+prices-of zero a e = unfold plannedAs in refl
+prices-of (suc k) a e = absurd (omega arith)
+
+plan-of : (k : ℕ) (a : PlanLists) → k ≡ 0 → plannedAs k a .plan ≡ slotted a
+plan-of zero a e = unfold plannedAs in refl
+plan-of (suc k) a e = absurd (omega arith)
+
+module _ (l : List ℕ) (p : ℕ) (ok : PlanningAccepted l p) where
+  lists-planned : listsOf (slotted (planOf l p)) ≡ planOf l p
+  lists-planned = lists-slotted (planOf l p) (plan-sound l p (ok .lengths .some) (ok .enough)) (unfold planOf in ok .lengths .few)
+
+  exponents-planned : exponents l p ≡ listsOf (slotted (planOf l p)) .exponents
+  exponents-planned = rw lists-planned (unfold planOf in refl)
+
+  axis-planned : (mask : ℕ) → treeAxis l mask ≡ lastSummed (keeps mask) 0 (listsOf (slotted (planOf l p)) .order)
+  axis-planned mask = rw lists-planned (unfold planOf treeAxis in refl)
+
+  priced-planned : planRefusal (slotted (planOf l p)) ≡ 0 → pricing (slotted (planOf l p)) ≡ gives (pricesOf (planOf l p))
+  unfolding pricing
+  priced-planned e = rw lists-planned (sym (answer-given (planRefusal (slotted (planOf l p))) (pricesOf (planOf l p)) e))
+
+pub answer-best : (l : List ℕ) (p : ℕ) → planning l p .refusal ≡ 0 → Best l p (planning l p)
+unfolding planning
+answer-best l p e =
+    let z : planningRefusal l p ≡ 0 = sym (refusal-of (planningRefusal l p) (planOf l p)) ∙ e in
+    let ok = planning-accepted l p z in
+    let least = demand l p (ok .lengths .some) (ok .enough) in
+    let c = prices-of (planningRefusal l p) (planOf l p) z in
+    let q = plan-of (planningRefusal l p) (planOf l p) z in
+    let m : plannedAs (planningRefusal l p) (planOf l p) .prices .moved ≡ Plans.moved (planOf l p) = (rw c (unfold pricesOf in refl)) in
+    let a : plannedAs (planningRefusal l p) (planOf l p) .prices .added ≡ Plans.added (planOf l p) = (rw c (unfold pricesOf in refl)) in
+    record {
+      moved-least = λ d w. rw m (least .moves-least d w);
+      added-least = λ w. rw a (least .adds-least w);
+      division = least .division;
+      way = least .way;
+      exponents = rw q (least .exponents ∙ exponents-planned l p ok);
+      axes = λ mask h. rw q (least .axes mask h ∙ axis-planned l p ok mask);
+      moves = least .moves ∙ sym m;
+      adds = least .adds ∙ sym a;
+      priced = rw (q, c) (priced-planned l p ok (planned-accepted l p z));
+    }
+
+-- for every call, by what its caller learns: the function's own contract, as the check reads it
+pub planned-best : (κs : Lfts 1) (a : ArgsD signature κs) (r : ResD signature κs) (s : AtExit ended κs) → reads.Learnt κs a r s → r .refusal ≡ 0 → Best (now (a .0)) (a .1 .0) r
+planned-best κs a r s h e =
+    let q : r ≡ planning (now (a .0)) (a .1 .0) = h in
+    subst (Best (now (a .0)) (a .1 .0)) (sym q) (answer-best (now (a .0)) (a .1 .0) (ap (λ (x : Planned). x .refusal) (sym q) ∙ e))
+
+lengths-of : (l : List ℕ) (p : ℕ) → planOf l p .lengths ≡ l
+unfolding planOf
+lengths-of l p = refl
+
+boards-of : (l : List ℕ) (p : ℕ) → planOf l p .p ≡ p
+unfolding planOf
+boards-of l p = refl
+
+pub answer-runs : (l : List ℕ) (p : ℕ) → planning l p .refusal ≡ 0 → Runnable l p (planning l p)
+unfolding planning
+answer-runs l p e =
+    let z : planningRefusal l p ≡ 0 = sym (refusal-of (planningRefusal l p) (planOf l p)) ∙ e in
+    let ok = planning-accepted l p z in
+    let q = plan-of (planningRefusal l p) (planOf l p) z in
+    let c = prices-of (planningRefusal l p) (planOf l p) z in
+    let s : listsOf (plannedAs (planningRefusal l p) (planOf l p) .plan) ≡ planOf l p = ap listsOf q ∙ lists-planned l p ok in
+    record {
+      passed = rw q (planned-accepted l p z);
+      sound = rw s (plan-sound l p (ok .lengths .some) (ok .enough));
+      some = rw (s, lengths-of l p) (ok .lengths .axes);
+      same = ap (λ (a : PlanLists). a .lengths) s ∙ lengths-of l p;
+      boards = ap (λ (a : PlanLists). a .p) s ∙ boards-of l p;
+      prices = c ∙ ap pricesOf (sym s);
+    }
+
+pub planned-runs : (κs : Lfts 1) (a : ArgsD signature κs) (r : ResD signature κs) (s : AtExit ended κs) → reads.Learnt κs a r s → r .refusal ≡ 0 → Runnable (now (a .0)) (a .1 .0) r
+planned-runs κs a r s h e =
+    let q : r ≡ planning (now (a .0)) (a .1 .0) = h in
+    subst (Runnable (now (a .0)) (a .1 .0)) (sym q) (answer-runs (now (a .0)) (a .1 .0) (ap (λ (x : Planned). x .refusal) (sym q) ∙ e))

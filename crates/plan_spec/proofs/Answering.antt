@@ -1,0 +1,114 @@
+-- What planning answers, field by field.
+use Prim.Native.Nat.{ℕ, zero, suc, _+_, _≤_, _<_}
+use mathlib.Core.Path.{_≡_, sym, _∙_, refl, ap, ap₂}
+use mathlib.Core.Bool.{Bool, true}
+use mathlib.Core.List.{List, [], _∷_}
+use native.Mathlib.Omega.{arith}
+use borrow.Author.Tests.{lt-ltb, ne-eqb}
+use lib.ListN.{length, getD, take, replicate}
+use Rattle.cube_spec.specs.Limits.{padded}
+use Rattle.cube_spec.specs.Boxes.{pick, tableFrom, table}
+use Rattle.cube_spec.specs.Checks.{first}
+use Rattle.cube_spec.proofs.Slots.{padded-at, padded-take}
+use Rattle.plan_spec.specs.declared.types.Plan.{Plan}
+use Rattle.plan_spec.specs.declared.types.Prices.{Prices}
+use Rattle.plan_spec.specs.declared.types.Planned.{Planned}
+use Rattle.plan_spec.specs.declared.types.Arrangement.{Arrangement}
+use Rattle.plan_spec.specs.Plans.{PlanLists, find, listsOf, slotted}
+use Rattle.plan_spec.specs.Rule.{order, orderedExponents, exponents, planOf}
+use Rattle.plan_spec.specs.Refusals.{badAxes, lengthChecks, planningChecks, planningRefusal, planRefusal}
+use Rattle.plan_spec.specs.Accepted.{PlanningAccepted}
+use Rattle.plan_spec.specs.Answers.{pricesOf, plannedAs, planning, arrangement}
+use Rattle.plan_spec.proofs.Places.{order-length}
+use Rattle.plan_spec.proofs.Demand.{plan-sound}
+use Rattle.plan_spec.proofs.Accepting.{planning-accepted, planned-accepted, lists-slotted}
+use Rattle.plan_spec.proofs.Arranging.{place-below, table-cong}
+
+pub blank : (n : ℕ) → 0 < n → (a : PlanLists) → _≡_ {A = Planned} (record { refusal = n; plan = record { axes = 0; p = 0; lengths = replicate 8 0; order = replicate 8 0; exponents = replicate 8 0 }; prices = record { moved = 0; added = 0; share = 0 } }) (plannedAs n a)
+blank zero h a = absurd (omega arith)
+blank (suc n) h a = unfold plannedAs slotted padded in refl
+
+planned-zero : (a : PlanLists) (q : Plan) (c : Prices) → q ≡ slotted a → c ≡ pricesOf a → _≡_ {A = Planned} (record { refusal = 0; plan = q; prices = c }) (plannedAs 0 a)
+unfolding plannedAs
+planned-zero a q c e f = (λ i. record { refusal = 0; plan = e i; prices = f i })
+
+module _ (l : List ℕ) (p : ℕ) where
+  pub refused-as : (r : Planned) (n : ℕ) → ((a : PlanLists) → r ≡ plannedAs n a) → n ≡ planningRefusal l p → r ≡ planning l p
+  unfolding planning
+  refused-as r n h e = h (planOf l p) ∙ ap (λ k. plannedAs k (planOf l p)) e
+
+  pub too-many : 8 < length l → 3 ≡ planningRefusal l p
+  unfolding planningRefusal planningChecks lengthChecks first badAxes
+  too-many h = rw (ne-eqb (length l) 0 (λ z. omega arith), lt-ltb 8 (length l) h)
+
+  module _ (ok : PlanningAccepted l p) (fits : length l ≤ 8) where
+    taken : take (length l) (padded (order l)) ≡ order l
+    taken = padded-take (order l) (length l) (order-length l) fits
+
+    -- each axis stands in the order
+    pub found : (a : ℕ) → a < length l → find a (take (length l) (padded (order l))) < length l
+    found a h = rw taken (place-below l p ok a h)
+
+    -- the exponents by axis number, in slots
+    pub exponents-slots : padded (table (length l) (λ a. getD (padded (orderedExponents l p)) (find a (take (length l) (padded (order l)))) 0)) ≡ padded (exponents l p)
+    unfolding exponents
+    exponents-slots = ap padded (table-cong (length l) 0 _ _ (λ a _ h. one a (omega arith)))
+      where
+        one : (a : ℕ) → a < length l → getD (padded (orderedExponents l p)) (find a (take (length l) (padded (order l)))) 0 ≡ getD (orderedExponents l p) (find a (order l)) 0
+        one a h = ap (λ o. getD (padded (orderedExponents l p)) (find a o) 0) taken ∙ padded-at (orderedExponents l p) (find a (order l)) (let q = place-below l p ok a h in omega arith)
+
+  pub plan-fields : (q : Plan) → q .axes ≡ length l → q .p ≡ p → q .lengths ≡ padded l → q .order ≡ padded (order l) → q .exponents ≡ padded (exponents l p) → q ≡ slotted (planOf l p)
+  unfolding slotted planOf
+  plan-fields q a b c d e = (λ i. record { axes = a i; p = b i; lengths = c i; order = d i; exponents = e i })
+
+  pub planned-as : 0 ≡ planningRefusal l p → (q : Plan) (c : Prices) → q ≡ slotted (planOf l p) → c ≡ pricesOf (listsOf q) → listsOf (slotted (planOf l p)) ≡ planOf l p → _≡_ {A = Planned} (record { refusal = 0; plan = q; prices = c }) (planning l p)
+  unfolding planning
+  planned-as z q c e f s = planned-zero (planOf l p) q c e (f ∙ ap (λ x. pricesOf (listsOf x)) e ∙ ap pricesOf s) ∙ ap (λ k. plannedAs k (planOf l p)) z
+
+  -- the plan comes out of its slots as it went in
+  pub slots-back : PlanningAccepted l p → listsOf (slotted (planOf l p)) ≡ planOf l p
+  unfolding planOf
+  slots-back ok = lists-slotted (planOf l p) (plan-sound l p (ok .lengths .some) (ok .enough)) (ok .lengths .few)
+
+-- ---- in the code's terms: `ds` are the lengths in slots, `bad` the refusal, `v` the arrangement, `ks` the exponents by axis number
+module _ (l ds : List ℕ) (p bad : ℕ) (slots : ds ≡ padded l) (fits : length l ≤ 8) (judged : bad ≡ planningRefusal (take (length l) ds) p) where
+  back : take (length l) ds ≡ l
+  back = ap (take (length l)) slots ∙ padded-take l (length l) refl fits
+
+  pub judged-so : bad ≡ planningRefusal l p
+  judged-so = judged ∙ ap (λ x. planningRefusal x p) back
+
+  module _ (fine : bad ≡ 0) where
+    pub fine-slots : PlanningAccepted (take (length l) ds) p
+    fine-slots = planning-accepted (take (length l) ds) p (sym judged ∙ fine)
+
+    fine-lengths : PlanningAccepted l p
+    fine-lengths = planning-accepted l p (sym judged-so ∙ fine)
+
+    module _ (v : Arrangement) (arranged : v ≡ arrangement (take (length l) ds) p) where
+      ordered : v .order ≡ padded (order l)
+      unfolding arrangement
+      ordered = ap (λ (w : Arrangement). w .order) arranged ∙ ap (λ x. padded (order x)) back
+
+      cut : v .exponents ≡ padded (orderedExponents l p)
+      unfolding arrangement
+      cut = ap (λ (w : Arrangement). w .exponents) arranged ∙ ap (λ x. padded (orderedExponents x p)) back
+
+      pub placed : (a : ℕ) → a < length l → find a (take (length l) (v .order)) < length l
+      placed a h = rw ordered (found l p fine-lengths fits a h)
+
+      module _ (ks : List ℕ) (spread : ks ≡ padded (table (length l) (λ a. getD (v .exponents) (find a (take (length l) (v .order))) 0))) where
+        abbrev made : Plan
+        made = record { axes = length l; p = p; lengths = ds; order = v .order; exponents = ks }
+
+        by-axis : ks ≡ padded (exponents l p)
+        by-axis = spread ∙ ap₂ (λ (k o : List ℕ). padded (table (length l) (λ a. getD k (find a (take (length l) o)) 0))) cut ordered ∙ exponents-slots l p fine-lengths fits
+
+        same : made ≡ slotted (planOf l p)
+        same = plan-fields l p made refl refl slots ordered by-axis
+
+        pub made-accepted : planRefusal made ≡ 0
+        made-accepted = ap planRefusal same ∙ planned-accepted l p (sym judged-so ∙ fine)
+
+        pub made-planned : (c : Prices) → c ≡ pricesOf (listsOf made) → _≡_ {A = Planned} (record { refusal = 0; plan = made; prices = c }) (planning l p)
+        made-planned c e = planned-as l p (sym fine ∙ judged-so) made c same e (slots-back l p fine-lengths)

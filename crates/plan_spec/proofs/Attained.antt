@@ -1,0 +1,315 @@
+-- The planner's tree and exponents are a way and a division; so the least is attained.
+use Prim.Native.Nat.{ℕ, zero, suc, _+_, _*_, _^_, _≤_, _<_, min}
+use mathlib.Core.Path.{_≡_, _∙_, ap, ap₂, sym, refl, fun-ext}
+use mathlib.Core.Bool.{Bool, true, false}
+use mathlib.Core.List.{List, [], _∷_}
+use mathlib.Core.Option.{Option, none, some}
+use native.Mathlib.Omega.{arith}
+use native.Mathlib.Nat.{one-mul, mul-one, min-eq-right, zero-add}
+use lib.ListN.{length, getD}
+use lib.Pow.{pow-pos}
+use Rattle.cube_spec.specs.Boxes.{pick, sumN, tableFrom, table}
+use Rattle.cube_spec.specs.Choices.{keeps, fullMask, lengthOf, cells}
+use Rattle.cube_spec.specs.Tree.{sent}
+use Rattle.cube_spec.specs.Ways.{Way, Division, sumList, costBy, movedBy, addedBy}
+use Rattle.cube_spec.proofs.Sums.{by}
+use Rattle.cube_spec.proofs.Naturals.{sumN-cong}
+use Rattle.cube_spec.proofs.Masks.{all-kept, parent-cells}
+use Rattle.cube_spec.proofs.Tables.{table-length, table-of}
+use Rattle.cube_spec.proofs.Axes.{Axis, lens, keys, tree, axis, axes-same, lens-length, lens-table, keys-table, moved-tree, added-tree}
+use Rattle.plan_spec.specs.Plans as Plans
+use Rattle.plan_spec.specs.Plans.{count, find, exponentAt}
+use Rattle.plan_spec.specs.Rule.{Typed, numbered, sort, numbers, order, orderedLength, exponents, planOf}
+use Rattle.plan_spec.specs.Trees.{lastSummed, treeAxis}
+use Rattle.plan_spec.proofs.Orders.{find-lt, get-find}
+use Rattle.plan_spec.proofs.Sorted.{lengths, ordered, sorted, largest, sorted-falls, Falls, falls-more, numbered-lengths, ordered-sorted}
+use Rattle.plan_spec.proofs.Shuffled.{Shuffled, same, under, swap, then, sort-shuffled, All}
+use Rattle.plan_spec.proofs.Places.{sort-length, order-length, order-once, ordered-length, ordered-table, all-at, all-sorted}
+use Rattle.plan_spec.proofs.Cost.{lower, lower-swap, rate, cost, cost-swap, falling-tree, Fits}
+use Rattle.plan_spec.proofs.Ways.{leastKey, cheapest, cost-below}
+use Rattle.plan_spec.proofs.Ranked.{exponents-fall}
+use Rattle.plan_spec.proofs.Chosen.{planned, planned-lens, planned-keys, planned-length, exponent-of, exponents-table}
+use Rattle.plan_spec.proofs.Least.{sent-zero, planned-fits, planned-sum}
+use Rattle.plan_spec.proofs.Tools.{impossible, bool-cases, add-same}
+
+-- ---- a key for each axis number
+
+-- the keys of typed axes, and the axes with them
+each : (ℕ → ℕ) → List Typed → List ℕ
+each e [] = []
+each e (t ∷ r) = e (t .num) ∷ each e r
+
+keyed : (ℕ → ℕ) → List Typed → List Axis
+keyed e [] = []
+keyed e (t ∷ r) = record { len = t .len; key = e (t .num) } ∷ keyed e r
+
+keyed-lens : (e : ℕ → ℕ) (l : List Typed) → lens (keyed e l) ≡ lengths l
+unfolding keyed lens lengths
+keyed-lens e [] = refl
+keyed-lens e (t ∷ r) = ap (λ (x : List ℕ). t .len ∷ x) (keyed-lens e r)
+
+keyed-keys : (e : ℕ → ℕ) (l : List Typed) → keys (keyed e l) ≡ each e l
+unfolding keyed keys each
+keyed-keys e [] = refl
+keyed-keys e (t ∷ r) = ap (λ (x : List ℕ). e (t .num) ∷ x) (keyed-keys e r)
+
+cost-shuffled : (price e : ℕ → ℕ) {l s : List Typed} → Shuffled l s → (m : Option ℕ) (c : ℕ) → cost price m c (keyed e l) ≡ cost price m c (keyed e s)
+unfolding keyed cost
+cost-shuffled price e (same l) m c = refl
+cost-shuffled price e (under a s) m c = add-same (cost-shuffled price e s m _) (cost-shuffled price e s _ c)
+cost-shuffled price e (swap a b l) m c = cost-swap price m c _ _ (keyed e l)
+cost-shuffled price e (then s t) m c = cost-shuffled price e s m c ∙ cost-shuffled price e t m c
+
+sum-shuffled : (e : ℕ → ℕ) {l s : List Typed} → Shuffled l s → sumList (each e l) ≡ sumList (each e s)
+unfolding each sumList
+sum-shuffled e (same l) = refl
+sum-shuffled e (under a s) = ap (λ (x : ℕ). e (a .num) + x) (sum-shuffled e s)
+sum-shuffled e (swap a b l) = omega arith
+sum-shuffled e (then s t) = sum-shuffled e s ∙ sum-shuffled e t
+
+each-typed : (e : ℕ → ℕ) (j : ℕ) (ds : List ℕ) → each e (numbered j ds) ≡ tableFrom (length ds) j e
+unfolding each numbered tableFrom
+each-typed e j [] = refl
+each-typed e j (d ∷ ds) = let q : suc j ≡ j + 1 = omega arith in rw q (ap (λ (x : List ℕ). e j ∷ x) (each-typed e (j + 1) ds))
+
+each-length : (e : ℕ → ℕ) (l : List Typed) → length (each e l) ≡ length l
+unfolding each
+each-length e [] = refl
+each-length e (t ∷ r) = ap suc (each-length e r)
+
+each-at : (e : ℕ → ℕ) (l : List Typed) (i : ℕ) → i < length l → getD (each e l) i 0 ≡ e (getD (numbers l) i 0)
+unfolding each numbers
+each-at e [] i h = absurd (omega arith)
+each-at e (t ∷ r) zero h = refl
+each-at e (t ∷ r) (suc i) h = each-at e r i (omega arith)
+
+module _ (e : ℕ → ℕ) (ds : List ℕ) where
+  -- along the planner's order
+  each-sorted : each e (sort (numbered 0 ds)) ≡ table (length ds) (λ i. e (getD (order ds) i 0))
+  unfolding order
+  each-sorted =
+      table-of (length ds) _ (each e (sort (numbered 0 ds))) 0 (each-length e (sort (numbered 0 ds)) ∙ sort-length ds) (λ i l. each-at e (sort (numbered 0 ds)) i (rw (sort-length ds) l))
+
+  keyed-sorted : keyed e (sort (numbered 0 ds)) ≡ table (length ds) (axis (orderedLength ds) (λ i. e (getD (order ds) i 0)))
+  unfolding ordered
+  keyed-sorted =
+      axes-same _ _ (keyed-lens e (sort (numbered 0 ds)) ∙ ordered-table ds ∙ sym (lens-table (orderedLength ds) (λ i. e (getD (order ds) i 0)) (length ds) 0)) (keyed-keys e (sort (numbered 0 ds)) ∙ each-sorted ∙ sym (keys-table (orderedLength ds) (λ i. e (getD (order ds) i 0)) (length ds) 0))
+
+-- ---- the last axis summed
+
+-- Choices by axis numbers: `kept i` says whether axis i is kept.
+some-summed : (ℕ → Bool) → List Typed → Bool
+some-summed kept [] = false
+some-summed kept (t ∷ r) = pick (kept (t .num)) (some-summed kept r) true
+
+pick-swap : (x y b : Bool) → pick x (pick y b true) true ≡ pick y (pick x b true) true
+pick-swap true true b = refl
+pick-swap true false b = refl
+pick-swap false true b = refl
+pick-swap false false b = refl
+
+some-shuffled : (kept : ℕ → Bool) {l s : List Typed} → Shuffled l s → some-summed kept l ≡ some-summed kept s
+unfolding some-summed
+some-shuffled kept (same l) = refl
+some-shuffled kept (under a s) = ap (λ (x : Bool). pick (kept (a .num)) x true) (some-shuffled kept s)
+some-shuffled kept (swap a b l) = pick-swap (kept (a .num)) (kept (b .num)) (some-summed kept l)
+some-shuffled kept (then s t) = some-shuffled kept s ∙ some-shuffled kept t
+
+-- where none is summed, all are kept
+none-summed : (kept : ℕ → Bool) (l : List Typed) → some-summed kept l ≡ false → All (λ t. kept (t .num) ≡ true) l
+unfolding some-summed All
+none-summed kept [] h = tt
+none-summed kept (t ∷ r) h =
+    by (kept (t .num)) (λ q. (q, none-summed kept r (rw q at h))) (λ q. impossible (let z : true ≡ false = (rw q at h) in cc))
+
+-- a choice below the full one sums some axis
+below-some : (ds : List ℕ) (mask : ℕ) → mask < fullMask (length ds) → some-summed (keeps mask) (sort (numbered 0 ds)) ≡ true
+unfolding fullMask
+below-some ds mask h =
+    some-shuffled (keeps mask) (sort-shuffled (numbered 0 ds)) ∙ by (some-summed (keeps mask) (numbered 0 ds)) (λ t. t) (λ t. absurd (all t))
+  where
+    all : some-summed (keeps mask) (numbered 0 ds) ≡ false → ⊥
+    all t =
+        let a = all-at (λ d x. keeps mask d ≡ true) 0 ds (none-summed (keeps mask) (numbered 0 ds) t) in
+        let p = pow-pos (length ds) in
+        let q = all-kept (length ds) mask (omega arith) (λ d l. rw (zero-add d) at (a d l)) in
+        unfold fullMask in omega arith
+
+-- the last axis summed is summed, if there is one
+last-keeps : (kept : ℕ → Bool) (i : ℕ) (l : List Typed) → kept i ≡ false → kept (lastSummed kept i (numbers l)) ≡ false
+unfolding lastSummed numbers
+last-keeps kept i [] h = h
+last-keeps kept i (t ∷ r) h =
+    bool-cases (λ b. kept (lastSummed kept (pick b i (t .num)) (numbers r)) ≡ false) (kept (t .num)) (λ q. last-keeps kept i r h)
+    (λ q. last-keeps kept (t .num) r q)
+
+last-summed : (kept : ℕ → Bool) (i : ℕ) (l : List Typed) → some-summed kept l ≡ true → kept (lastSummed kept i (numbers l)) ≡ false
+unfolding lastSummed numbers some-summed
+last-summed kept i [] = λ h. cc
+last-summed kept i (t ∷ r) =
+    bool-cases (λ b. pick b (some-summed kept r) true ≡ true → kept (lastSummed kept (pick b i (t .num)) (numbers r)) ≡ false) (kept (t .num))
+    (λ q. last-summed kept i r) (λ q h. last-keeps kept (t .num) r q)
+
+last-below : (kept : ℕ → Bool) (n i : ℕ) (l : List Typed) → i < n → All (λ t. t .num < n) l → lastSummed kept i (numbers l) < n
+unfolding lastSummed numbers All
+last-below kept n i [] h a = h
+last-below kept n i (t ∷ r) h a =
+    bool-cases (λ b. lastSummed kept (pick b i (t .num)) (numbers r) < n) (kept (t .num)) (λ q. last-below kept n i r h (a .1))
+    (λ q. last-below kept n (t .num) r (a .0) (a .1))
+
+-- the least key of the axes summed, by axis numbers
+least-summed : (ℕ → Bool) → (ℕ → ℕ) → Option ℕ → List Typed → Option ℕ
+least-summed kept e m [] = m
+least-summed kept e m (t ∷ r) = least-summed kept e (pick (kept (t .num)) m (lower m (e (t .num)))) r
+
+lower-picks : (x y : Bool) (m : Option ℕ) (j k : ℕ)
+    → pick y (pick x m (lower m j)) (lower (pick x m (lower m j)) k) ≡ pick x (pick y m (lower m k)) (lower (pick y m (lower m k)) j)
+lower-picks true true m j k = refl
+lower-picks true false m j k = refl
+lower-picks false true m j k = refl
+lower-picks false false m j k = lower-swap m j k
+
+least-shuffled : (kept : ℕ → Bool) (e : ℕ → ℕ) {l s : List Typed} → Shuffled l s → (m : Option ℕ) → least-summed kept e m l ≡ least-summed kept e m s
+unfolding least-summed
+least-shuffled kept e (same l) m = refl
+least-shuffled kept e (under a s) m = least-shuffled kept e s _
+least-shuffled kept e (swap a b l) m =
+    ap (λ (x : Option ℕ). least-summed kept e x l) (lower-picks (kept (a .num)) (kept (b .num)) m (e (a .num)) (e (b .num)))
+least-shuffled kept e (then s t) m = least-shuffled kept e s m ∙ least-shuffled kept e t m
+
+least-typed : (kept : ℕ → Bool) (e : ℕ → ℕ) (m : Option ℕ) (j : ℕ) (ds : List ℕ)
+    → leastKey m (λ d. kept (j + d)) (keyed e (numbered j ds)) ≡ least-summed kept e m (numbered j ds)
+unfolding leastKey keyed numbered least-summed
+least-typed kept e m j [] = refl
+least-typed kept e m j (d ∷ ds) =
+    let q : j + 0 ≡ j = omega arith in
+    let f : _≡_ {A = ℕ → Bool} (λ d. kept (j + suc d)) (λ d. kept (suc j + d)) = fun-ext (λ d. ap kept (omega arith)) in
+    ap₂ (λ (x : ℕ) (g : ℕ → Bool). leastKey (pick (kept x) m (lower m (e j))) g (keyed e (numbered (suc j) ds))) q f ∙ least-typed kept e _ (suc j) ds
+
+-- where keys fall along the order, the last axis summed has the least key
+last-least : (kept : ℕ → Bool) (e : ℕ → ℕ) (i : ℕ) (l : List Typed) → Falls (e i) (each e l) → least-summed kept e (some (e i)) l ≡ some (e (lastSummed kept i (numbers l)))
+unfolding least-summed lastSummed numbers each Falls lower
+last-least kept e i [] f = refl
+last-least kept e i (t ∷ r) f =
+    bool-cases (λ b. least-summed kept e (pick b (some (e i)) (some (min (e i) (e (t .num))))) r ≡ some (e (lastSummed kept (pick b i (t .num)) (numbers r))))
+    (kept (t .num)) (λ q. last-least kept e i r (falls-more (each e r) (f .0) (f .1)))
+    (λ q. rw (min-eq-right (f .0)) (last-least kept e (t .num) r (f .1)))
+
+first-least : (kept : ℕ → Bool) (e : ℕ → ℕ) (b i : ℕ) (l : List Typed) → Falls b (each e l) → some-summed kept l ≡ true
+    → least-summed kept e none l ≡ some (e (lastSummed kept i (numbers l)))
+unfolding least-summed lastSummed numbers each Falls lower some-summed
+first-least kept e b i [] f = λ h. impossible (cc)
+first-least kept e b i (t ∷ r) f =
+    bool-cases
+    (λ x. pick x (some-summed kept r) true ≡ true
+    → least-summed kept e (pick x none (some (e (t .num)))) r ≡ some (e (lastSummed kept (pick x i (t .num)) (numbers r))))
+    (kept (t .num)) (λ q. first-least kept e (e (t .num)) i r (f .1)) (λ q h. last-least kept e (t .num) r (f .1))
+
+-- ---- the tree is a way
+
+pub tree-way : (ds : List ℕ) → Way (length ds)
+unfolding treeAxis order
+tree-way ds =
+    record {
+      axis = treeAxis ds;
+      within = λ mask h.
+          last-below (keeps mask) (length ds) 0 (sort (numbered 0 ds)) (some-axis (length ds) mask h) (all-sorted (λ d x. d < length ds) ds (λ d l. l));
+      summed = λ mask h. last-summed (keeps mask) 0 (sort (numbered 0 ds)) (below-some ds mask h);
+    }
+  where
+    some-axis : (n mask : ℕ) → mask < fullMask n → 0 < n
+    some-axis zero mask h = absurd (unfold fullMask in omega arith)
+    some-axis (suc n) mask h = omega arith
+
+pub tree-way-axis : (ds : List ℕ) (mask : ℕ) → (tree-way ds) .axis mask ≡ treeAxis ds mask
+unfolding tree-way
+tree-way-axis ds mask = refl
+
+least-tree : (e : ℕ → ℕ) (b : ℕ) (ds : List ℕ) → Falls b (each e (sort (numbered 0 ds))) → (mask : ℕ) → mask < fullMask (length ds)
+    → leastKey none (keeps mask) (keyed e (numbered 0 ds)) ≡ some (e (treeAxis ds mask))
+unfolding treeAxis order
+least-tree e b ds d mask h =
+    let k = keeps mask in
+    let s : _≡_ {A = ℕ → Bool} k (λ d. k (0 + d)) = fun-ext (λ d. ap k (sym (zero-add d))) in
+    ap (λ (g : ℕ → Bool). leastKey none g (keyed e (numbered 0 ds))) s ∙ least-typed k e none 0 ds ∙ sym (least-shuffled k e (sort-shuffled (numbered 0 ds)) none)
+    ∙ first-least k e b 0 (sort (numbered 0 ds)) d (below-some ds mask h)
+
+cheapest-tree : (price e : ℕ → ℕ) (b : ℕ) (ds : List ℕ) → Falls b (each e (sort (numbered 0 ds))) → (mask : ℕ) → mask < fullMask (length ds)
+    → cheapest price none 1 (keyed e (numbered 0 ds)) mask ≡ cells ds mask * price (e (treeAxis ds mask))
+unfolding cheapest rate
+cheapest-tree price e b ds d mask h = rw (keyed-lens e (numbered 0 ds), numbered-lengths 0 ds, one-mul, least-tree e b ds d mask h) refl
+
+-- Where keys fall along the planner's order, its tree is the cheapest way. `f` is what a choice costs by that way.
+attained : (price e : ℕ → ℕ) (b : ℕ) (ds : List ℕ) (f : ℕ → ℕ) → price 0 ≡ 0 → Falls b (each e (sort (numbered 0 ds)))
+    → ((mask : ℕ) → mask < fullMask (length ds) → f mask ≡ cells ds mask * price (e (treeAxis ds mask)))
+    → sumN (fullMask (length ds)) f ≡ tree price 0 1 (table (length ds) (axis (orderedLength ds) (λ i. e (getD (order ds) i 0))))
+attained price e b ds f z d g =
+    let n = numbered 0 ds in
+    let t = sort n in
+    let l : lens (keyed e n) ≡ ds = keyed-lens e n ∙ numbered-lengths 0 ds in
+    let s : length (keyed e n) ≡ length ds = sym (lens-length (keyed e n)) ∙ ap length l in
+    let c : cost price none 1 (keyed e t) ≡ cost price none 1 (keyed e n) = cost-shuffled price e (sort-shuffled n) none 1 in
+    let h : cost price none 1 (keyed e t) ≡ tree price 0 1 (keyed e t) = falling-tree price b 1 (keyed e t) z (rw keyed-keys d) in
+    rw (← keyed-sorted e ds, ← h, c, cost-below, s) (sumN-cong (fullMask (length ds)) (λ mask r. g mask r ∙ sym (cheapest-tree price e b ds d mask r)))
+
+-- ---- the exponents are a division
+
+fits-at : (r : List Axis) → Fits r → (i : ℕ) → i < length r → 2 ^ getD (keys r) i 0 ≤ getD (lens r) i 0
+unfolding Fits keys lens
+fits-at [] f i h = absurd (omega arith)
+fits-at (a ∷ r) f zero h = f .0
+fits-at (a ∷ r) f (suc i) h = fits-at r (f .1) i (omega arith)
+
+module _ (ds : List ℕ) (p : ℕ) where
+  -- the planner's exponent of each axis number
+  exponent : ℕ → ℕ
+  exponent a = getD (exponents ds p) a 0
+
+  each-exponent : each exponent (sort (numbered 0 ds)) ≡ keys (planned ds p)
+  unfolding exponent planOf
+  each-exponent = each-sorted exponent ds ∙ sym (planned-keys ds p ∙ exponents-table ds p)
+
+  -- the exponents by axis number fit, and have the sum asked for, if any do
+  exponent-fits : Division ds p → (a : ℕ) → a < length ds → 2 ^ getD (exponents ds p) a 0 ≤ lengthOf ds a
+  exponent-fits e a h =
+      let c : 0 < count a (order ds) = (let o = order-once ds a h in omega arith) in
+      let l : find a (order ds) < length ds = (let o = order-length ds in let f = find-lt a (order ds) c in omega arith) in
+      let g = fits-at (planned ds p) (planned-fits ds p e) (find a (order ds)) (rw (planned-length ds p) l) in
+      let x : getD (lens (planned ds p)) (find a (order ds)) 0 ≡ lengthOf ds a = ap (λ (y : List ℕ). getD y (find a (order ds)) 0) (planned-lens ds p ∙ sym (ordered-sorted ds)) ∙ ordered-length ds _ l ∙ (unfold orderedLength in ap (lengthOf ds) (get-find a (order ds) c)) in
+      rw (exponent-of ds p a h, ← planned-keys ds p, ← x) g
+
+  exponents-each : length (exponents ds p) ≡ length ds
+  unfolding exponents
+  exponents-each = table-length (length ds) 0 _
+
+  exponents-numbered : exponents ds p ≡ each exponent (numbered 0 ds)
+  unfolding exponent
+  exponents-numbered = table-of (length ds) exponent (exponents ds p) 0 exponents-each (λ i l. refl) ∙ sym (each-typed exponent 0 ds)
+
+  pub tree-division : Division ds p → Division ds p
+  tree-division e =
+      record {
+        exponents = exponents ds p;
+        each = exponents-each;
+        fits = exponent-fits e;
+        sums = ap sumList exponents-numbered ∙ sym (sum-shuffled exponent (sort-shuffled (numbered 0 ds))) ∙ ap sumList each-exponent ∙ planned-sum ds p e;
+      }
+
+  pub tree-division-exponents : (e : Division ds p) → (tree-division e) .exponents ≡ exponents ds p
+  unfolding tree-division
+  tree-division-exponents e = refl
+
+  -- the tree with the planner's exponents moves what the plan says
+  pub moves-attained : (e : Division ds p) → movedBy ds (tree-division e) (tree-way ds) ≡ Plans.moved (planOf ds p)
+  unfolding movedBy costBy tree-way tree-division exponent planned Plans.moved planOf orderedLength
+  moves-attained e =
+      let (b, d) = exponents-fall ds p in
+      attained sent exponent b ds _ sent-zero (rw each-exponent d) (λ mask h. mul-one _) ∙ sym (moved-tree (length ds) (orderedLength ds) (exponentAt (planOf ds p)))
+
+-- and adds up what the plan says
+pub adds-attained : (ds : List ℕ) (p : ℕ) → addedBy ds (tree-way ds) ≡ Plans.added (planOf ds p)
+unfolding addedBy tree-way Plans.added planOf orderedLength
+adds-attained ds p =
+    let a : each (lengthOf ds) (sort (numbered 0 ds)) ≡ sorted ds = each-sorted (lengthOf ds) ds ∙ sym (ordered-table ds) ∙ ordered-sorted ds in
+    attained (λ k. k) (lengthOf ds) (largest ds) ds _ refl (rw a (sorted-falls ds)) (λ mask h. parent-cells ds mask _ ((tree-way ds) .within mask h) ((tree-way ds) .summed mask h))
+    ∙ sym (added-tree (length ds) (orderedLength ds))

@@ -1,0 +1,40 @@
+-- What planning and pricing answer.
+use Prim.Native.Nat.{ℕ, zero, suc}
+use mathlib.Core.List.{List, []}
+use Rattle.cube_spec.specs.Limits.{padded}
+use Rattle.cube_spec.specs.Checks.{Reply, gives, refuses, answered}
+use Rattle.plan_spec.specs.declared.types.Plan.{Plan}
+use Rattle.plan_spec.specs.declared.types.Prices.{Prices}
+use Rattle.plan_spec.specs.declared.types.Priced.{Priced}
+use Rattle.plan_spec.specs.declared.types.Priced.the-variants as Priced′
+use Rattle.plan_spec.specs.declared.types.Planned.{Planned}
+use Rattle.plan_spec.specs.Plans.{PlanLists, moved, added, shareSize, listsOf, slotted}
+use Rattle.plan_spec.specs.declared.types.Arrangement.{Arrangement}
+use Rattle.plan_spec.specs.Rule.{order, orderedExponents, planOf}
+use Rattle.plan_spec.specs.Refusals.{planningRefusal, planRefusal}
+
+-- a plan's prices
+unfoldable pub pricesOf : PlanLists → Prices
+pricesOf a = record { moved = moved a; added = added a; share = shareSize a }
+
+-- the enum answer of pricing: the paper's values, or its number
+abbrev pub pricedReply : Priced → Reply Prices
+pricedReply (Priced′.Given c) = gives c
+pricedReply (Priced′.Refused n) = refuses n
+
+-- what pricing answers
+unfoldable pub pricing : Plan → Reply Prices
+pricing q = answered (planRefusal q) (pricesOf (listsOf q))
+
+-- what planning answers: "Each gives its number alone", so nothing but zeros stands beside a refusal
+unfoldable pub plannedAs : ℕ → PlanLists → Planned
+plannedAs zero a = record { refusal = 0; plan = slotted a; prices = pricesOf a }
+plannedAs (suc n) a =
+    record { refusal = suc n; plan = slotted (record { lengths = []; order = []; exponents = []; p = 0 }); prices = record { moved = 0; added = 0; share = 0 } }
+
+unfoldable pub planning : List ℕ → ℕ → Planned
+planning ds p = plannedAs (planningRefusal ds p) (planOf ds p)
+
+-- the planner's order and exponents, both in plan order, in slots
+unfoldable pub arrangement : List ℕ → ℕ → Arrangement
+arrangement ds p = record { order = padded (order ds); exponents = padded (orderedExponents ds p) }

@@ -1,0 +1,60 @@
+-- The steps of small plans, and what each board holds, computed from the definitions.
+use Prim.Native.Nat.{ℕ, suc}
+use mathlib.Core.Path.{_≡_, refl}
+use mathlib.Core.List.{List, [], _∷_}
+use lib.ListN.{length, replicate}
+use Rattle.cube_spec.specs.Checks.{gives, refuses}
+use Rattle.plan_spec.specs.declared.types.Plan.{Plan}
+use Rattle.cube_spec.specs.Boxes.{table}
+use Rattle.rack_spec.specs.Computing.{computing}
+use Rattle.rack_spec.specs.Grids.{Grid, gridOf, boards}
+use Rattle.rack_spec.specs.Steps.{TreeStep, steps}
+use Rattle.rack_spec.specs.Held.{held}
+use Rattle.rack_spec.specs.Answers.{Told, telling, holding, counting}
+use Rattle.rack_spec.proofs.Listed.{Case, cases}
+
+unfoldable pub tellings : Grid → List TreeStep → List Told
+tellings g [] = []
+tellings g (s ∷ l) = telling g s ∷ tellings g l
+
+unfoldable pub told-all : List Case → List (List Told)
+told-all [] = []
+told-all (c ∷ r) = (let g = gridOf (c .plan) in tellings g (steps g)) ∷ told-all r
+
+unfoldable pub listed-steps : List Case → List (List Told)
+listed-steps [] = []
+listed-steps (c ∷ r) = c .steps ∷ listed-steps r
+
+pub steps-told : told-all cases ≡ listed-steps cases
+unfolding computing cases tellings told-all listed-steps
+steps-told = refl
+
+-- what each board holds, at each position from 0 to T
+unfoldable pub holdings : Grid → List (List ℕ)
+holdings g = table (boards g) (λ b. table (suc (length (steps g))) (λ at. held g at b))
+
+unfoldable pub held-all : List Case → List (List (List ℕ))
+held-all [] = []
+held-all (c ∷ r) = holdings (gridOf (c .plan)) ∷ held-all r
+
+unfoldable pub listed-held : List Case → List (List (List ℕ))
+listed-held [] = []
+listed-held (c ∷ r) = c .held ∷ listed-held r
+
+pub held-cases : held-all cases ≡ listed-held cases
+unfolding computing cases holdings held-all listed-held
+held-cases = refl
+
+-- held and the step count as entries: the worked example has T 6 and two boards
+plan : ℕ → Plan
+plan p = record { axes = 2; lengths = 2 ∷ 3 ∷ replicate 6 0; order = 1 ∷ 0 ∷ replicate 6 0; exponents = 0 ∷ 1 ∷ replicate 6 0; p = p }
+
+entries : (counting (plan 1) ≡ gives 6)
+    × (counting (plan 2) ≡ refuses 9)
+    × (holding (plan 2) 7 2 ≡ refuses 9)
+    × (holding (plan 1) 7 0 ≡ refuses 12)
+    × (holding (plan 1) 1 2 ≡ refuses 12)
+    × (holding (plan 1) 1 1 ≡ gives 4)
+    × (holding (plan 1) 6 1 ≡ gives 0)
+unfolding computing plan
+entries = (refl, refl, refl, refl, refl, refl, refl)

@@ -1,0 +1,100 @@
+-- Small tapes with what the program prints for each. Written by `compare table tapes`, which works the output out by direct sums of its own.
+use Prim.Native.Nat.{ℕ}
+use mathlib.Core.List.{List, [], _∷_}
+use Rattle.report_spec.specs.Text.{text}
+
+pub record Case : Type 0 where
+  pub tape : List ℕ
+  pub output : List ℕ
+
+-- lengths 2, 3, p 1: the worked example
+unfoldable pub worked-example : Case
+worked-example = record { tape = 65 ∷ 2 ∷ 0 ∷ 65 ∷ 3 ∷ 0 ∷ 66 ∷ 1 ∷ 86 ∷ 1 ∷ 0 ∷ 0 ∷ 0 ∷ 86 ∷ 254 ∷ 255 ∷ 255 ∷ 255 ∷ 86 ∷ 3 ∷ 0 ∷ 0 ∷ 0 ∷ 86 ∷ 4 ∷ 0 ∷ 0 ∷ 0 ∷ 86 ∷ 5 ∷ 0 ∷ 0 ∷ 0 ∷ 86 ∷ 250 ∷ 255 ∷ 255 ∷ 255 ∷ 69 ∷ []; output = text "plan 2 1 2 14 4\ndim 1 3 1\ndim 0 2 0\ngroup 2 5 3 -3\ngroup 0 5\ngroup 1 2 3\nend 3\n" }
+
+-- length 5, p 2: one axis
+unfoldable pub one-axis : Case
+one-axis = record { tape = 65 ∷ 5 ∷ 0 ∷ 66 ∷ 2 ∷ 86 ∷ 7 ∷ 0 ∷ 0 ∷ 0 ∷ 86 ∷ 0 ∷ 0 ∷ 0 ∷ 0 ∷ 86 ∷ 255 ∷ 255 ∷ 255 ∷ 255 ∷ 86 ∷ 12 ∷ 0 ∷ 0 ∷ 0 ∷ 86 ∷ 3 ∷ 0 ∷ 0 ∷ 0 ∷ 69 ∷ []; output = text "plan 1 2 3 5 1\ndim 0 5 2\ngroup 0 21\nend 1\n" }
+
+-- lengths 2, 2, 2, p 2: three axes, points by a 52
+unfoldable pub three-axes : Case
+three-axes = record { tape = 65 ∷ 2 ∷ 0 ∷ 65 ∷ 2 ∷ 0 ∷ 65 ∷ 2 ∷ 0 ∷ 66 ∷ 2 ∷ 82 ∷ 3 ∷ 0 ∷ 5 ∷ 0 ∷ 0 ∷ 0 ∷ 86 ∷ 249 ∷ 255 ∷ 255 ∷ 255 ∷ 82 ∷ 4 ∷ 0 ∷ 1 ∷ 0 ∷ 0 ∷ 0 ∷ 69 ∷ []; output = text "plan 3 2 10 38 5\ndim 0 2 1\ndim 1 2 1\ndim 2 2 0\ngroup 3 10 -2 2 2\ngroup 1 8 4\ngroup 5 10 -2 2 2\ngroup 2 12 0\ngroup 0 12\ngroup 4 12 0\ngroup 6 6 6 6 -6\nend 7\n" }
+
+-- length 5, p 0: five points of -2147483648
+unfoldable pub lowest-points : Case
+lowest-points = record { tape = 65 ∷ 5 ∷ 0 ∷ 66 ∷ 0 ∷ 86 ∷ 0 ∷ 0 ∷ 0 ∷ 128 ∷ 86 ∷ 0 ∷ 0 ∷ 0 ∷ 128 ∷ 86 ∷ 0 ∷ 0 ∷ 0 ∷ 128 ∷ 86 ∷ 0 ∷ 0 ∷ 0 ∷ 128 ∷ 86 ∷ 0 ∷ 0 ∷ 0 ∷ 128 ∷ 69 ∷ []; output = text "plan 1 0 0 5 1\ndim 0 5 0\ngroup 0 -10737418240\nend 1\n" }
+
+-- lengths 3, 2, p 2: both axes split
+unfoldable pub both-axes-split : Case
+both-axes-split = record { tape = 65 ∷ 3 ∷ 0 ∷ 65 ∷ 2 ∷ 0 ∷ 66 ∷ 2 ∷ 86 ∷ 1 ∷ 0 ∷ 0 ∷ 0 ∷ 86 ∷ 10 ∷ 0 ∷ 0 ∷ 0 ∷ 86 ∷ 100 ∷ 0 ∷ 0 ∷ 0 ∷ 86 ∷ 232 ∷ 3 ∷ 0 ∷ 0 ∷ 86 ∷ 16 ∷ 39 ∷ 0 ∷ 0 ∷ 86 ∷ 160 ∷ 134 ∷ 1 ∷ 0 ∷ 69 ∷ []; output = text "plan 2 2 6 14 3\ndim 0 3 1\ndim 1 2 1\ngroup 1 11 1100 110000\ngroup 0 111111\ngroup 2 10101 101010\nend 3\n" }
+
+-- lengths 1, 1, p 0: two axes of length 1
+unfoldable pub two-axes-of-one : Case
+two-axes-of-one = record { tape = 65 ∷ 1 ∷ 0 ∷ 65 ∷ 1 ∷ 0 ∷ 66 ∷ 0 ∷ 86 ∷ 247 ∷ 255 ∷ 255 ∷ 255 ∷ 69 ∷ []; output = text "plan 2 0 0 3 2\ndim 0 1 0\ndim 1 1 0\ngroup 1 -9\ngroup 0 -9\ngroup 2 -9\nend 3\n" }
+
+-- lengths 2, 3, 2, p 1: the middle axis longest, negative points
+unfoldable pub middle-axis-longest : Case
+middle-axis-longest = record { tape = 65 ∷ 2 ∷ 0 ∷ 65 ∷ 3 ∷ 0 ∷ 65 ∷ 2 ∷ 0 ∷ 66 ∷ 1 ∷ 86 ∷ 255 ∷ 255 ∷ 255 ∷ 255 ∷ 86 ∷ 254 ∷ 255 ∷ 255 ∷ 255 ∷ 86 ∷ 253 ∷ 255 ∷ 255 ∷ 255 ∷ 86 ∷ 252 ∷ 255 ∷ 255 ∷ 255 ∷ 86 ∷ 251 ∷ 255 ∷ 255 ∷ 255 ∷ 86 ∷ 250 ∷ 255 ∷ 255 ∷ 255 ∷ 86 ∷ 249 ∷ 255 ∷ 255 ∷ 255 ∷ 86 ∷ 248 ∷ 255 ∷ 255 ∷ 255 ∷ 86 ∷ 247 ∷ 255 ∷ 255 ∷ 255 ∷ 86 ∷ 10 ∷ 0 ∷ 0 ∷ 0 ∷ 86 ∷ 11 ∷ 0 ∷ 0 ∷ 0 ∷ 86 ∷ 244 ∷ 255 ∷ 255 ∷ 255 ∷ 69 ∷ []; output = text "plan 3 1 4 52 12\ndim 1 3 1\ndim 0 2 0\ndim 2 2 0\ngroup 3 -3 -7 -11 -15 1 -1\ngroup 2 -18 -6 -12\ngroup 6 -8 -10 -12 6 6 -18\ngroup 1 -21 -15\ngroup 0 -36\ngroup 4 -14 -22\ngroup 5 -9 -12 -5 -10\nend 7\n" }
+
+-- refused 2: no 45
+unfoldable pub no-end : Case
+no-end = record { tape = 65 ∷ 2 ∷ 0 ∷ 66 ∷ 1 ∷ 86 ∷ 1 ∷ 0 ∷ 0 ∷ 0 ∷ 86 ∷ 2 ∷ 0 ∷ 0 ∷ 0 ∷ []; output = text "refused 2\n" }
+
+-- refused 3: no 41
+unfoldable pub no-axes : Case
+no-axes = record { tape = 66 ∷ 0 ∷ 86 ∷ 1 ∷ 0 ∷ 0 ∷ 0 ∷ 69 ∷ []; output = text "refused 3\n" }
+
+-- refused 4: a length of 0
+unfoldable pub zero-length : Case
+zero-length = record { tape = 65 ∷ 2 ∷ 0 ∷ 65 ∷ 0 ∷ 0 ∷ 66 ∷ 0 ∷ 69 ∷ []; output = text "refused 4\n" }
+
+-- refused 5: lengths 4096, 4097
+unfoldable pub too-many-points : Case
+too-many-points = record { tape = 65 ∷ 0 ∷ 16 ∷ 65 ∷ 1 ∷ 16 ∷ 66 ∷ 0 ∷ 86 ∷ 1 ∷ 0 ∷ 0 ∷ 0 ∷ 69 ∷ []; output = text "refused 5\n" }
+
+-- refused 6: p 11
+unfoldable pub high-p : Case
+high-p = record { tape = 65 ∷ 0 ∷ 16 ∷ 66 ∷ 11 ∷ 69 ∷ []; output = text "refused 6\n" }
+
+-- refused 7: lengths 3, 2, p 3
+unfoldable pub too-many-boards : Case
+too-many-boards = record { tape = 65 ∷ 3 ∷ 0 ∷ 65 ∷ 2 ∷ 0 ∷ 66 ∷ 3 ∷ 86 ∷ 1 ∷ 0 ∷ 0 ∷ 0 ∷ 86 ∷ 2 ∷ 0 ∷ 0 ∷ 0 ∷ 86 ∷ 3 ∷ 0 ∷ 0 ∷ 0 ∷ 86 ∷ 4 ∷ 0 ∷ 0 ∷ 0 ∷ 86 ∷ 5 ∷ 0 ∷ 0 ∷ 0 ∷ 86 ∷ 6 ∷ 0 ∷ 0 ∷ 0 ∷ 69 ∷ []; output = text "refused 7\n" }
+
+-- refused 10: lengths 2, 2 and three points
+unfoldable pub point-missing : Case
+point-missing = record { tape = 65 ∷ 2 ∷ 0 ∷ 65 ∷ 2 ∷ 0 ∷ 66 ∷ 1 ∷ 86 ∷ 1 ∷ 0 ∷ 0 ∷ 0 ∷ 86 ∷ 2 ∷ 0 ∷ 0 ∷ 0 ∷ 86 ∷ 3 ∷ 0 ∷ 0 ∷ 0 ∷ 69 ∷ []; output = text "refused 10\n" }
+
+-- refused 11: length 65535 and as many points
+unfoldable pub past-the-program : Case
+past-the-program = record { tape = 65 ∷ 255 ∷ 255 ∷ 66 ∷ 0 ∷ 82 ∷ 255 ∷ 255 ∷ 0 ∷ 0 ∷ 0 ∷ 0 ∷ 69 ∷ []; output = text "refused 11\n" }
+
+-- refused 2: no 45, and a length of 0
+unfoldable pub form-before-length : Case
+form-before-length = record { tape = 65 ∷ 0 ∷ 0 ∷ 66 ∷ 0 ∷ []; output = text "refused 2\n" }
+
+-- refused 3: nine axes, one of length 0, and p 200
+unfoldable pub axes-before-length : Case
+axes-before-length = record { tape = 65 ∷ 1 ∷ 0 ∷ 65 ∷ 1 ∷ 0 ∷ 65 ∷ 1 ∷ 0 ∷ 65 ∷ 1 ∷ 0 ∷ 65 ∷ 0 ∷ 0 ∷ 65 ∷ 1 ∷ 0 ∷ 65 ∷ 1 ∷ 0 ∷ 65 ∷ 1 ∷ 0 ∷ 65 ∷ 1 ∷ 0 ∷ 66 ∷ 200 ∷ 69 ∷ []; output = text "refused 3\n" }
+
+-- refused 4: a length of 0 after 65535 twice, and p 11
+unfoldable pub length-before-product : Case
+length-before-product = record { tape = 65 ∷ 255 ∷ 255 ∷ 65 ∷ 255 ∷ 255 ∷ 65 ∷ 0 ∷ 0 ∷ 66 ∷ 11 ∷ 69 ∷ []; output = text "refused 4\n" }
+
+-- refused 5: lengths 65535 twice, and p 11
+unfoldable pub product-before-p : Case
+product-before-p = record { tape = 65 ∷ 255 ∷ 255 ∷ 65 ∷ 255 ∷ 255 ∷ 66 ∷ 11 ∷ 69 ∷ []; output = text "refused 5\n" }
+
+-- refused 6: p 11 for length 2, and one point
+unfoldable pub p-before-boards : Case
+p-before-boards = record { tape = 65 ∷ 2 ∷ 0 ∷ 66 ∷ 11 ∷ 86 ∷ 1 ∷ 0 ∷ 0 ∷ 0 ∷ 69 ∷ []; output = text "refused 6\n" }
+
+-- refused 7: p 2 for length 2, and 9000 points
+unfoldable pub boards-before-points : Case
+boards-before-points = record { tape = 65 ∷ 2 ∷ 0 ∷ 66 ∷ 2 ∷ 82 ∷ 39 ∷ 35 ∷ 1 ∷ 0 ∷ 0 ∷ 0 ∷ 82 ∷ 1 ∷ 0 ∷ 2 ∷ 0 ∷ 0 ∷ 0 ∷ 69 ∷ []; output = text "refused 7\n" }
+
+-- refused 10: 9000 points for length 2
+unfoldable pub points-before-limit : Case
+points-before-limit = record { tape = 65 ∷ 2 ∷ 0 ∷ 66 ∷ 0 ∷ 82 ∷ 39 ∷ 35 ∷ 1 ∷ 0 ∷ 0 ∷ 0 ∷ 82 ∷ 1 ∷ 0 ∷ 2 ∷ 0 ∷ 0 ∷ 0 ∷ 69 ∷ []; output = text "refused 10\n" }
+
+unfoldable pub cases : List Case
+unfolding worked-example one-axis three-axes lowest-points both-axes-split two-axes-of-one middle-axis-longest no-end no-axes zero-length too-many-points high-p too-many-boards point-missing past-the-program form-before-length axes-before-length length-before-product product-before-p p-before-boards boards-before-points points-before-limit
+cases = worked-example ∷ one-axis ∷ three-axes ∷ lowest-points ∷ both-axes-split ∷ two-axes-of-one ∷ middle-axis-longest ∷ no-end ∷ no-axes ∷ zero-length ∷ too-many-points ∷ high-p ∷ too-many-boards ∷ point-missing ∷ past-the-program ∷ form-before-length ∷ axes-before-length ∷ length-before-product ∷ product-before-p ∷ p-before-boards ∷ boards-before-points ∷ points-before-limit ∷ []

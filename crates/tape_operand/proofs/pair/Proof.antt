@@ -1,0 +1,44 @@
+-- `operands::pair` meets its contract. The sum of the bytes as they are weighed is `little`.
+use native.Mathlib.Omega.{arith}
+use borrow.Author.Needs.{needs}
+use Rattle.cube_spec.specs.Bytes.{little}
+use Rattle.tape_operand.proofs.pair.Tie as tie
+use Rattle.tape_operand.proofs.pair.Statement.{statement}
+
+shared-slice-read-wide16 : tie.Need-shared-slice-read-wide16
+shared-slice-read-wide16 c = search needs
+
+wide16-requires : tie.Need-wide16-requires
+wide16-requires c κs = tt
+
+add-wide16 : tie.Need-add-wide16
+add-wide16 c = search needs
+
+shared-slice-read-wide16-2 : tie.Need-shared-slice-read-wide16-2
+shared-slice-read-wide16-2 c = search needs
+
+wide16-requires-2 : tie.Need-wide16-requires-2
+wide16-requires-2 c κs = tt
+
+mul-result : tie.Need-mul-result
+mul-result c = search needs
+
+add-result : tie.Need-add-result
+add-result c = search needs
+
+returns : tie.Need-returns
+unfolding little
+returns c = omega arith
+
+pub pair-spec : {M : Type 1} → statement M
+pair-spec =
+    tie.close
+    (tie.spec
+    shared-slice-read-wide16
+    wide16-requires
+    add-wide16
+    shared-slice-read-wide16-2
+    wide16-requires-2
+    mul-result
+    add-result
+    returns)

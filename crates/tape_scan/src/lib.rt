@@ -1,0 +1,96 @@
+// The scan of a tape: its form is judged, and what it holds is counted.
+use tape_command::decode;
+use tape_spec::types::Command;
+use tape_spec::types::Count;
+use tape_spec::types::Scan;
+ghost use mathlib.Core.Path.{_≡_};
+ghost use mathlib.Core.Option.{none};
+ghost use Prim.Native.Nat.{_≤_};
+ghost use lib.ListN.{length, drop, set};
+ghost use Rattle.cube_spec.specs.Limits.{tapeLimit};
+ghost use Rattle.tape_spec.specs.Decoding.{pointsIn, counted};
+ghost use Rattle.tape_spec.specs.Reading.{orEmpty, scannedAs, scanning};
+
+// A refusal with nothing but zeros.
+fn refused(refusal: u8) -> Scan
+    ensures { λ r. ⌜ r ≡ scannedAs refusal (orEmpty none) ⌝ }
+{
+    let lengths = [0u32; 8];
+    Scan {
+        refusal,
+        axes: 0,
+        lengths,
+        p: 0,
+        points: 0,
+    }
+}
+
+// The lengths with d in slot i, where there is such a slot.
+fn put(lengths: [u32; 8], i: usize, d: u16) -> [u32; 8]
+    ensures { λ r. ⌜ r ≡ set lengths i d ⌝ }
+{
+    let mut changed = lengths;
+    if i < 8 {
+        changed[i] = d as u32;
+    }
+    changed
+}
+
+// Counts the points from a position to the end of a tape.
+fn count(tape: &[u8], start: usize) -> Count
+    requires { ⌜ length (now tape) ≤ tapeLimit ⌝ }
+    ensures { λ r. ⌜ r ≡ counted (pointsIn (drop start (now (tape .entry)))) ⌝ }
+{
+    let mut points: u64 = 0;
+    let mut at = start;
+    loop {
+        match decode(tape, at) {
+            Command::Points(n, _, next) => {
+                points += n as u64;
+                at = next;
+            }
+            Command::End(next) => {
+                if next < tape.len() {
+                    return Count::Broken;
+                }
+                return Count::Whole(points);
+            }
+            _ => return Count::Broken,
+        }
+    }
+}
+
+// Judges a tape's form and counts what it holds, in one pass.
+pub fn scan(tape: &[u8]) -> Scan
+    ensures { λ r. ⌜ r ≡ scanning (now (tape .entry)) ⌝ }
+{
+    if 65536 < tape.len() {
+        return refused(1);
+    }
+    let mut lengths = [0u32; 8];
+    let mut axes: usize = 0;
+    let mut at: usize = 0;
+    loop {
+        match decode(tape, at) {
+            Command::Axis(d, next) => {
+                let changed = put(lengths, axes, d);
+                lengths = changed;
+                axes += 1;
+                at = next;
+            }
+            Command::Boards(p, next) => {
+                let Count::Whole(points) = count(tape, next) else {
+                    return refused(2);
+                };
+                return Scan {
+                    refusal: 0,
+                    axes: axes as u32,
+                    lengths,
+                    p,
+                    points,
+                };
+            }
+            _ => return refused(2),
+        }
+    }
+}

@@ -1,0 +1,150 @@
+-- What the program knows of a tape that it does not refuse: its plan, its points, and that all fits.
+use Prim.Native.Nat.{ℕ, zero, suc, _≤_, _<_}
+use mathlib.Core.Path.{_≡_, sym, _∙_, refl, ap, ap₂}
+use mathlib.Core.Bool.{Bool, true, false, not, _||_}
+use mathlib.Core.List.{List, [], _∷_, _++_}
+use native.Mathlib.Omega.{arith}
+use borrow.Author.Tests.{eqb-true, ltb-false, le-ltb}
+use lib.Dec.{eqb, ltb}
+use lib.IntN.{ℤ}
+use lib.ListN.{length, take, drop, length-append}
+use lib.Seq.{take-at}
+use Rattle.cube_spec.specs.Limits.{programLimit, tapeLimit}
+use Rattle.cube_spec.specs.Choices.{points}
+use Rattle.cube_spec.specs.Checks.{Check, check, first}
+use Rattle.cube_spec.proofs.Sums.{by}
+use Rattle.plan_spec.specs.Plans.{PlanLists, Sound, listsOf, slotted}
+use Rattle.plan_spec.specs.Rule.{planOf}
+use Rattle.plan_spec.specs.Answers.{pricesOf, plannedAs}
+use Rattle.plan_spec.specs.Refusals.{planningChecks, planningRefusal, planRefusal}
+use Rattle.plan_spec.specs.Accepted.{PlanningAccepted, Accepted}
+use Rattle.plan_spec.specs.declared.types.Planned.{Planned}
+use Rattle.plan_spec.proofs.Accepting.{planning-accepted, lists-slotted, slotted-accepted, planned-accepted}
+use Rattle.plan_spec.proofs.Demand.{plan-sound}
+use Rattle.rack_spec.proofs.Refusing.{Numbered}
+use Rattle.tape_spec.specs.Tapes.{Campaign, campaign}
+use Rattle.tape_spec.specs.Reading.{tooLong, isNone, orEmpty, scanChecks, shortSlice, readingChecks, readingRefusal, filledOr, reading}
+use Rattle.run_spec.specs.Entries.{badArray, workCells}
+use Rattle.report_spec.specs.Printed.{planFor, tooLarge, programChecks, programRefusal}
+use Rattle.totals_check.specs.Judging.{judging}
+use Rattle.totals_check.proofs.Judged.{planning-numbered, refusal-of, plan-of}
+
+-- ---- no check of a list is due
+
+none-first : (c : Check) (l : List Check) → 0 < c .number → first (c ∷ l) ≡ 0 → (c .due ≡ false) × (first l ≡ 0)
+unfolding first
+none-first c l n h = by (c .due) (λ t. let z : c .number ≡ 0 = (rw t at h) in absurd (omega arith)) (λ t. (t, rw t at h))
+
+none-both : (l r : List Check) → Numbered l → first (l ++ r) ≡ 0 → (first l ≡ 0) × (first r ≡ 0)
+unfolding first
+none-both [] r n h = (refl, h)
+none-both (c ∷ l) r n h =
+    let d = none-first c (l ++ r) (n .0) h in
+    let i = none-both l r (n .1) (d .1) in
+    (rw (d .0) (i .0), i .1)
+
+prices-of : (n : ℕ) (a : PlanLists) → n ≡ 0 → plannedAs n a .prices ≡ pricesOf a
+unfolding plannedAs
+prices-of zero a e = refl
+prices-of (suc n) a e = absurd (omega arith)
+
+neither : (a b : Bool) → (a || b) ≡ false → (a ≡ false) × (b ≡ false)
+neither true b e = (e, by b (λ t. absurd (let z : true ≡ false = e in let y : _≡_ {A = ℕ} 0 1 = cc in omega arith)) (λ t. t))
+neither false b e = (refl, e)
+
+same : (m n : ℕ) → not (eqb m n) ≡ false → m ≡ n
+same m n e = by (eqb m n) (λ t. eqb-true m n t) (λ t. absurd (let z : true ≡ false = (rw t at e) in let y : _≡_ {A = ℕ} 0 1 = cc in omega arith))
+
+module _ (tape : List ℕ) (judged : Planned) (e : judged ≡ judging tape) where
+  abbrev c : Campaign
+  c = orEmpty (campaign tape)
+
+  pub refusal-is : judged .refusal ≡ programRefusal tape
+  unfolding judging
+  refusal-is = ap (λ r. r .refusal) e ∙ refusal-of (programRefusal tape) (planFor c)
+
+  module _ (z : judged .refusal ≡ 0) where
+    pub none-due : programRefusal tape ≡ 0
+    none-due = sym refusal-is ∙ z
+
+    pub plan-is : judged .plan ≡ slotted (planFor c)
+    unfolding judging
+    plan-is = ap (λ r. r .plan) e ∙ plan-of (programRefusal tape) (planFor c) none-due
+
+    prices-are : judged .prices ≡ pricesOf (planFor c)
+    unfolding judging
+    prices-are = ap (λ r. r .prices) e ∙ prices-of (programRefusal tape) (planFor c) none-due
+
+    abbrev counts : List Check
+    counts = check 10 (badArray (planFor c) (length (c .points))) ∷ check 11 (tooLarge c) ∷ []
+
+    scanned : (tooLong tape ≡ false) × (isNone (campaign tape) ≡ false) × (first (planningChecks (c .lengths) (c .p) ++ counts) ≡ 0)
+    unfolding programRefusal programChecks
+    scanned =
+        let a = none-first (check 1 (tooLong tape)) (check 2 (isNone (campaign tape)) ∷ (planningChecks (c .lengths) (c .p) ++ counts)) (omega arith) none-due in
+        let b = none-first (check 2 (isNone (campaign tape))) (planningChecks (c .lengths) (c .p) ++ counts) (omega arith) (a .1) in
+        (a .0, b .0, b .1)
+
+    parted : (first (planningChecks (c .lengths) (c .p)) ≡ 0) × (first counts ≡ 0)
+    parted = none-both (planningChecks (c .lengths) (c .p)) counts (planning-numbered (c .lengths) (c .p)) (scanned .2)
+
+    planned : planningRefusal (c .lengths) (c .p) ≡ 0
+    unfolding planningRefusal
+    planned = parted .0
+
+    accepted : PlanningAccepted (c .lengths) (c .p)
+    accepted = planning-accepted (c .lengths) (c .p) planned
+
+    pub plan-passed : planRefusal (judged .plan) ≡ 0
+    plan-passed = ap planRefusal plan-is ∙ planned-accepted (c .lengths) (c .p) planned
+
+    sound : Sound (planFor c)
+    sound = plan-sound (c .lengths) (c .p) (accepted .lengths .some) (accepted .enough)
+
+    pub plan-accepted : Accepted (judged .plan)
+    plan-accepted = rw plan-is (slotted-accepted (planFor c) (unfold planOf in accepted .lengths) (unfold planOf in accepted .boards) sound)
+
+    pub lists-are : listsOf (judged .plan) ≡ planFor c
+    lists-are = ap listsOf plan-is ∙ lists-slotted (planFor c) sound (unfold planOf in accepted .lengths .few)
+
+    pub prices-lists : judged .prices ≡ pricesOf (listsOf (judged .plan))
+    prices-lists = prices-are ∙ ap pricesOf (sym lists-are)
+
+    counted : (badArray (planFor c) (length (c .points)) ≡ false) × (tooLarge c ≡ false)
+    counted =
+        let a = none-first (check 10 (badArray (planFor c) (length (c .points)))) (check 11 (tooLarge c) ∷ []) (omega arith) (parted .1) in
+        let b = none-first (check 11 (tooLarge c)) [] (omega arith) (a .1) in
+        (a .0, b .0)
+
+    pub points-are : points (listsOf (judged .plan) .lengths) ≡ length (c .points)
+    points-are = ap (λ a. points (a .lengths)) lists-are ∙ sym (same (length (c .points)) (points (planFor c .lengths)) (unfold badArray in counted .0))
+
+    large : (ltb programLimit (length (c .points)) ≡ false) × (ltb programLimit (workCells (planFor c)) ≡ false)
+    unfolding tooLarge
+    large = neither (ltb programLimit (length (c .points))) (ltb programLimit (workCells (planFor c))) (counted .1)
+
+    pub points-few : length (c .points) ≤ 8192
+    points-few = ltb-false programLimit (length (c .points)) (large .0)
+
+    pub area-few : workCells (listsOf (judged .plan)) ≤ 8192
+    area-few = rw lists-are (ltb-false programLimit (workCells (planFor c)) (large .1))
+
+    -- filling puts the points at the start
+    module _ (old now : List ℤ) (room : length old ≡ 8192) (filled : now ≡ reading tape old) where
+      whole : now ≡ c .points ++ drop (length (c .points)) old
+      unfolding reading readingRefusal readingChecks scanChecks first shortSlice filledOr
+      whole =
+          let f = points-few in
+          let s : ltb (length old) (length (c .points)) ≡ false = le-ltb (length old) (length (c .points)) (omega arith) in
+          filled ∙ rw (scanned .0, scanned .1, s) refl
+
+      module _ (n : ℕ) (k : n ≡ points (listsOf (judged .plan) .lengths)) where
+        pub loaded : take n now ≡ c .points
+        loaded = ap₂ take (k ∙ points-are) whole ∙ take-at (c .points) (drop (length (c .points)) old) (length (c .points)) refl
+
+        pub loaded-fits : n ≤ length now
+        loaded-fits =
+            let p = k ∙ points-are in
+            let l = ap length whole in
+            let a = length-append (c .points) (drop (length (c .points)) old) in
+            omega arith
