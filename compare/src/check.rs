@@ -1,8 +1,9 @@
 //! Compares what a program prints for made tapes with direct sums, and sees how it ends when
-//! nobody takes what it prints.
+//! nobody takes what it prints, or not all of it.
 
 pub mod coverage;
 mod difference;
+mod once;
 mod patience;
 mod shut;
 mod tapes;
@@ -28,7 +29,8 @@ pub fn run(program: &str, seed: u64, count: u64) -> bool {
         println!("{outcome:<20}{number:>8}");
     }
     let covered = if count >= MANY { coverage::cases(&outcomes) } else { Vec::new() };
-    let parts = [tapes, covered, shut::cases(program, &patience)];
+    let shut = shut::cases(program, &patience);
+    let parts = [tapes, covered, shut, once::cases(program, &patience)];
     parts.iter().for_each(|part| print_faults(part));
     let tried: usize = parts.iter().map(Vec::len).sum();
     let failed: usize = parts.iter().map(|part| faulty(part).count()).sum();

@@ -63,7 +63,7 @@ fn module(opening: &str, cases: Vec<Case>, fields: fn(&Plan) -> String) -> Strin
              {name} = record {{ plan = {plan}; {fields} }}\n"
         );
     }
-    text + &all(cases.iter().map(|case| case.name))
+    text + &all("cases", "Case", cases.iter().map(|case| case.name))
 }
 
 fn record(plan: &Plan) -> String {

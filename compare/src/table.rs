@@ -1,7 +1,9 @@
-//! Small tapes with what the program prints for each, as an antt module.
+//! Small tapes with what the program prints for each, and tapes at the program's limits with
+//! what it refuses, as an antt module.
 
+use crate::judge::Refusal;
 use crate::spell;
-use crate::tape::Run;
+use crate::tape::{Run, LONGEST_TAPE};
 use crate::totals;
 
 struct Case {
@@ -11,31 +13,37 @@ struct Case {
 }
 
 const OPENING: &str = "\
--- Small tapes with what the program prints for each. Written by `compare table tapes`, which works the output out by direct sums of its own.
+-- Small tapes with what the program prints for each, and tapes at its limits with what it refuses. Written by `compare table tapes`, which works the output out by direct sums of its own.
 use Prim.Native.Nat.{ℕ}
 use mathlib.Core.List.{List, [], _∷_}
+use lib.ListN.{replicate}
 use Rattle.report_spec.specs.Text.{text}
 
 pub record Case : Type 0 where
   pub tape : List ℕ
   pub output : List ℕ
+
+-- `refusal` is 0 for a tape that is taken
+pub record Limit : Type 0 where
+  pub tape : List ℕ
+  pub refusal : ℕ
 ";
 
 pub fn module() -> String {
-    let cases = cases();
+    let (cases, limits) = (cases(), limits());
     let mut text = OPENING.to_string();
-    for case in &cases {
-        text.push_str(&declared(case));
-    }
-    text + &all(cases.iter().map(|case| case.name))
+    cases.iter().for_each(|case| text.push_str(&declared(case)));
+    text += &all("cases", "Case", cases.iter().map(|case| case.name));
+    limits.iter().for_each(|case| text.push_str(&declared_limit(case)));
+    text + &all("limits", "Limit", limits.iter().map(|case| case.name))
 }
 
-/// The list of all cases; to compute with it is to compute with each.
-pub fn all<'a>(names: impl Iterator<Item = &'a str>) -> String {
+/// The list of all cases of a kind; to compute with it is to compute with each.
+pub fn all<'a>(name: &str, kind: &str, names: impl Iterator<Item = &'a str>) -> String {
     let names: Vec<&str> = names.collect();
     let listed = list(&names);
     let names = names.join(" ");
-    format!("\nunfoldable pub cases : List Case\nunfolding {names}\ncases = {listed}\n")
+    format!("\nunfoldable pub {name} : List {kind}\nunfolding {names}\n{name} = {listed}\n")
 }
 
 fn declared(case: &Case) -> String {
@@ -45,6 +53,26 @@ fn declared(case: &Case) -> String {
         "\n-- {says}\nunfoldable pub {name} : Case\n\
          {name} = record {{ tape = {tape}; output = text {output} }}\n"
     )
+}
+
+fn declared_limit(case: &Case) -> String {
+    let Case { name, says, tape } = case;
+    let refusal = totals::accepted(tape).err().map_or(0, |Refusal(number)| number);
+    let tape = spelled(tape);
+    format!(
+        "\n-- {says}\nunfoldable pub {name} : Limit\n\
+         {name} = record {{ tape = {tape}; refusal = {refusal} }}\n"
+    )
+}
+
+/// A tape of one byte many times is not written out.
+fn spelled(tape: &[u8]) -> String {
+    match tape {
+        [first, rest @ ..] if rest.len() > 99 && rest.iter().all(|byte| byte == first) => {
+            format!("replicate {} {first}", tape.len())
+        }
+        _ => list(tape),
+    }
 }
 
 pub fn list<T: std::fmt::Display>(items: &[T]) -> String {
@@ -178,5 +206,40 @@ fn refused_for_the_first_of_several() -> Vec<Case> {
             "refused 10: 9000 points for length 2",
             spell::tape(&[2], 0, nine_thousand),
         ),
+    ]
+}
+
+fn limits() -> Vec<Case> {
+    let case = |name, says, tape| Case { name, says, tape };
+    let equal = |lengths: &[u16], p, count| spell::tape(lengths, p, vec![repeated(count, 1)]);
+    vec![
+        case("most-points", "taken: 8192 points", equal(&[8192], 0, 8192)),
+        case(
+            "one-point-more",
+            "refused 11: 8193 points, and a work area of one cell",
+            equal(&[8193], 0, 8193),
+        ),
+        case(
+            "most-cells",
+            "taken: a work area of 8192 cells on one board",
+            equal(&[8191, 1], 0, 8191),
+        ),
+        case(
+            "one-cell-more",
+            "refused 11: a work area of 8193 cells, and 8192 points",
+            equal(&[8192, 1], 0, 8192),
+        ),
+        case(
+            "most-shares",
+            "taken: 1024 boards of 8 cells each",
+            equal(&[17, 9, 8], 10, 17 * 9 * 8),
+        ),
+        case(
+            "one-cell-a-share-more",
+            "refused 11: 1024 boards of 9 cells each, and 8192 points",
+            equal(&[8192, 1], 10, 8192),
+        ),
+        case("longest-tape", "refused 2: 65536 bytes, and no command", vec![0; LONGEST_TAPE]),
+        case("one-byte-more", "refused 1: 65537 bytes, and no command", vec![0; LONGEST_TAPE + 1]),
     ]
 }

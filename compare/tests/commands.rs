@@ -57,22 +57,39 @@ fn tapes_are_written_beside_their_output() {
 fn table_says_what_its_comments_say() {
     let module = text(&compare(&["table", "tapes"]).stdout);
     assert_eq!(module, table::module());
-    let blocks: Vec<&str> = module.split("\n\n").collect();
-    let cases = &blocks[2..blocks.len() - 1];
-    let mut names = String::new();
-    for case in cases {
-        let lines: Vec<&str> = case.lines().collect();
-        let (says, name) = (&lines[0][3..], lines[1].split(' ').nth(2).unwrap());
-        let output = quoted(lines[2]);
-        match says.split_once(": ").unwrap().0.strip_prefix("refused ") {
+    let cases = declared(&module, "Case");
+    for (name, refusal, line) in &cases {
+        let output = quoted(line);
+        match refusal {
             Some(number) => assert_eq!(output, format!("refused {number}\n"), "{name}"),
             None => assert!(output.starts_with("plan "), "{name}"),
         }
         assert!(output.len() <= 200, "{name}");
-        names += &format!("{name} ∷ ");
     }
     assert!(cases.len() >= 16);
-    assert!(module.ends_with(&format!("cases = {names}[]\n")));
+    let limits = declared(&module, "Limit");
+    for (name, refusal, line) in &limits {
+        let number = refusal.unwrap_or("0");
+        assert!(line.ends_with(&format!("; refusal = {number} }}")), "{name}");
+    }
+    assert!(limits.len() >= 8);
+    for (list, of) in [("cases", cases), ("limits", limits)] {
+        let names: String = of.iter().map(|(name, ..)| format!("{name} ∷ ")).collect();
+        assert!(module.contains(&format!("\n{list} = {names}[]\n")));
+    }
+}
+
+/// The cases of a kind: the name, the refusal that the comment says, and what is declared.
+fn declared<'a>(module: &'a str, kind: &str) -> Vec<(&'a str, Option<&'a str>, &'a str)> {
+    let is_case = |lines: &Vec<&str>| {
+        lines.len() == 3 && lines[0].starts_with("-- ") && lines[1].ends_with(&format!(" : {kind}"))
+    };
+    let blocks = module.split("\n\n").map(|block| block.lines().collect::<Vec<&str>>());
+    let case = |lines: Vec<&'a str>| {
+        let says = lines[0][3..].split_once(": ").unwrap().0;
+        (lines[1].split(' ').nth(2).unwrap(), says.strip_prefix("refused "), lines[2])
+    };
+    blocks.filter(is_case).map(case).collect()
 }
 
 /// The text that a case gives in quotes.

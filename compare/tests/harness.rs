@@ -12,8 +12,9 @@ use compare::pieces::Pieces;
 use compare::program;
 use compare::random::Random;
 
-/// Cases besides the tapes: three tapes into four outputs.
-const SHUT: usize = 12;
+/// Cases besides the tapes: three tapes into four outputs, and one into an output that fails
+/// at one of its seven lines.
+const SHUT: usize = 3 * 4 + 7;
 
 /// Passed and failed, by the last line.
 fn counts(output: &std::process::Output) -> (usize, usize) {
@@ -46,6 +47,7 @@ fn what_differs_is_found() {
         ("no_feed", format!("printf %s \"$({PROGRAM} totals)\"")),
         ("stopped", format!("{PROGRAM} totals 2>/dev/null; kill -9 $$")),
         ("mute", "exit 0".to_string()),
+        ("status", format!("{PROGRAM} totals 2>/dev/null; exit 3")),
         ("longest_minus_one", format!("head -c 65536 | ({same})")),
         ("one_sum_off", format!("{PROGRAM} totals 2>/dev/null | sed 's/^group 0 .*/group 0 7/'")),
     ];
@@ -86,6 +88,22 @@ fn a_failed_output_is_judged() {
     let (broken, told) =
         counted("broken_pipe", &format!("{PROGRAM} totals 2>/dev/null || kill -PIPE $$"));
     assert_eq!(broken, (20 + SHUT, 0), "{told}");
+}
+
+/// Line by line, as the other program writes: one that stops at a line that is not taken, and
+/// one that goes on.
+#[test]
+fn nothing_follows_a_failed_write() {
+    let lines = |then: &str| {
+        let each = format!("(printf '%s\\n' \"$line\") 2>/dev/null || {then}");
+        format!("{PROGRAM} totals 2>/dev/null | while IFS= read -r line; do {each}; done; exit 0")
+    };
+    let stops = compare(&["check", &script("stops", &lines("break")), "1", "20"]);
+    assert_eq!(counts(&stops), (20 + SHUT, 0), "{}", text(&stops.stdout));
+    let goes_on = compare(&["check", &script("goes_on", &lines(":")), "1", "20"]);
+    let told = text(&goes_on.stdout);
+    assert_eq!(counts(&goes_on), (20 + SHUT - 6, 6), "{told}");
+    assert!(told.contains("fails once, at line 4\n  after a write that failed: "), "{told}");
 }
 
 #[test]

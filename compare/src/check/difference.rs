@@ -4,13 +4,15 @@ use crate::program::Answer;
 
 const BYTES_SHOWN: usize = 160;
 
-/// The exit status of a program that ends by itself is not judged.
 pub fn difference(expected: &[u8], answer: &Answer) -> Option<String> {
     if !answer.errors.is_empty() {
         return Some(on_errors(&answer.errors));
     }
     if answer.status.code().is_none() {
         return Some(format!("  stopped: {}", answer.status));
+    }
+    if !answer.status.success() {
+        return Some(format!("  ended with {}", answer.status));
     }
     if answer.output == expected {
         return None;

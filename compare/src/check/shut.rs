@@ -77,7 +77,7 @@ fn left(program: &str) -> io::Result<(Command, Stdio)> {
     Ok((Command::new(program), writer.into()))
 }
 
-fn fault(errors: &[u8], status: ExitStatus) -> Option<String> {
+pub fn fault(errors: &[u8], status: ExitStatus) -> Option<String> {
     if !errors.is_empty() {
         return Some(on_errors(errors));
     }

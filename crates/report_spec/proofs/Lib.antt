@@ -2,3 +2,4 @@ pub mod Tapes
 pub mod Cases
 pub mod Groups
 pub mod Lined
+pub mod Beginnings

@@ -1,11 +1,17 @@
--- Small tapes with what the program prints for each. Written by `compare table tapes`, which works the output out by direct sums of its own.
+-- Small tapes with what the program prints for each, and tapes at its limits with what it refuses. Written by `compare table tapes`, which works the output out by direct sums of its own.
 use Prim.Native.Nat.{ℕ}
 use mathlib.Core.List.{List, [], _∷_}
+use lib.ListN.{replicate}
 use Rattle.report_spec.specs.Text.{text}
 
 pub record Case : Type 0 where
   pub tape : List ℕ
   pub output : List ℕ
+
+-- `refusal` is 0 for a tape that is taken
+pub record Limit : Type 0 where
+  pub tape : List ℕ
+  pub refusal : ℕ
 
 -- lengths 2, 3, p 1: the worked example
 unfoldable pub worked-example : Case
@@ -98,3 +104,39 @@ points-before-limit = record { tape = 65 ∷ 2 ∷ 0 ∷ 66 ∷ 0 ∷ 82 ∷ 39 
 unfoldable pub cases : List Case
 unfolding worked-example one-axis three-axes lowest-points both-axes-split two-axes-of-one middle-axis-longest no-end no-axes zero-length too-many-points high-p too-many-boards point-missing past-the-program form-before-length axes-before-length length-before-product product-before-p p-before-boards boards-before-points points-before-limit
 cases = worked-example ∷ one-axis ∷ three-axes ∷ lowest-points ∷ both-axes-split ∷ two-axes-of-one ∷ middle-axis-longest ∷ no-end ∷ no-axes ∷ zero-length ∷ too-many-points ∷ high-p ∷ too-many-boards ∷ point-missing ∷ past-the-program ∷ form-before-length ∷ axes-before-length ∷ length-before-product ∷ product-before-p ∷ p-before-boards ∷ boards-before-points ∷ points-before-limit ∷ []
+
+-- taken: 8192 points
+unfoldable pub most-points : Limit
+most-points = record { tape = 65 ∷ 0 ∷ 32 ∷ 66 ∷ 0 ∷ 82 ∷ 0 ∷ 32 ∷ 1 ∷ 0 ∷ 0 ∷ 0 ∷ 69 ∷ []; refusal = 0 }
+
+-- refused 11: 8193 points, and a work area of one cell
+unfoldable pub one-point-more : Limit
+one-point-more = record { tape = 65 ∷ 1 ∷ 32 ∷ 66 ∷ 0 ∷ 82 ∷ 1 ∷ 32 ∷ 1 ∷ 0 ∷ 0 ∷ 0 ∷ 69 ∷ []; refusal = 11 }
+
+-- taken: a work area of 8192 cells on one board
+unfoldable pub most-cells : Limit
+most-cells = record { tape = 65 ∷ 255 ∷ 31 ∷ 65 ∷ 1 ∷ 0 ∷ 66 ∷ 0 ∷ 82 ∷ 255 ∷ 31 ∷ 1 ∷ 0 ∷ 0 ∷ 0 ∷ 69 ∷ []; refusal = 0 }
+
+-- refused 11: a work area of 8193 cells, and 8192 points
+unfoldable pub one-cell-more : Limit
+one-cell-more = record { tape = 65 ∷ 0 ∷ 32 ∷ 65 ∷ 1 ∷ 0 ∷ 66 ∷ 0 ∷ 82 ∷ 0 ∷ 32 ∷ 1 ∷ 0 ∷ 0 ∷ 0 ∷ 69 ∷ []; refusal = 11 }
+
+-- taken: 1024 boards of 8 cells each
+unfoldable pub most-shares : Limit
+most-shares = record { tape = 65 ∷ 17 ∷ 0 ∷ 65 ∷ 9 ∷ 0 ∷ 65 ∷ 8 ∷ 0 ∷ 66 ∷ 10 ∷ 82 ∷ 200 ∷ 4 ∷ 1 ∷ 0 ∷ 0 ∷ 0 ∷ 69 ∷ []; refusal = 0 }
+
+-- refused 11: 1024 boards of 9 cells each, and 8192 points
+unfoldable pub one-cell-a-share-more : Limit
+one-cell-a-share-more = record { tape = 65 ∷ 0 ∷ 32 ∷ 65 ∷ 1 ∷ 0 ∷ 66 ∷ 10 ∷ 82 ∷ 0 ∷ 32 ∷ 1 ∷ 0 ∷ 0 ∷ 0 ∷ 69 ∷ []; refusal = 11 }
+
+-- refused 2: 65536 bytes, and no command
+unfoldable pub longest-tape : Limit
+longest-tape = record { tape = replicate 65536 0; refusal = 2 }
+
+-- refused 1: 65537 bytes, and no command
+unfoldable pub one-byte-more : Limit
+one-byte-more = record { tape = replicate 65537 0; refusal = 1 }
+
+unfoldable pub limits : List Limit
+unfolding most-points one-point-more most-cells one-cell-more most-shares one-cell-a-share-more longest-tape one-byte-more
+limits = most-points ∷ one-point-more ∷ most-cells ∷ one-cell-more ∷ most-shares ∷ one-cell-a-share-more ∷ longest-tape ∷ one-byte-more ∷ []

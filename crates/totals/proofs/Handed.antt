@@ -127,7 +127,7 @@ put-there out line r e h =
     ap₂ (λ n l. take n l) e (sets-eq line out 0 z) ∙ take-append-seam line (drop (0 + length line) out)
 
 -- what a call leaves in its buffer
-line-there : (tape : List ℕ) (k : ℕ) (out out′ : List ℕ) (r : ℕ) → r ≡ length (lineAt tape k) → r ≤ length out′ → out′ ≡ sets out 0 (lineAt tape k) → take r out′ ≡ lineAt tape k
+pub line-there : (tape : List ℕ) (k : ℕ) (out out′ : List ℕ) (r : ℕ) → r ≡ length (lineAt tape k) → r ≤ length out′ → out′ ≡ sets out 0 (lineAt tape k) → take r out′ ≡ lineAt tape k
 line-there tape k out out′ r e h p =
     let n : length out′ ≡ length out = ap length p ∙ length-sets out 0 (lineAt tape k) in
     ap (take r) p ∙ put-there out (lineAt tape k) r e (omega arith)

@@ -1,2 +1,4 @@
 pub mod Bounds
 pub mod Handed
+pub mod Printing
+pub mod Stopping

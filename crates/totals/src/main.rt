@@ -1,5 +1,6 @@
 // The program: reads a tape on standard input, plans, runs, and prints the report on standard output.
 mod loading;
+mod types;
 mod writing;
 
 use writing::print;
@@ -12,5 +13,5 @@ fn main() {
     let mut work = [0i64; 8192];
     let mut cells = [0i64; 8192];
     let mut out = [0u8; 172064];
-    print(&space[..n], &mut points, &mut work, &mut cells, &mut out);
+    let _written = print(&space, n, &mut points, &mut work, &mut cells, &mut out);
 }

@@ -1,73 +1,51 @@
--- `totals::writing::print` hands the points on to the lines.
-use mathlib.Core.Path.{_∙_, ap}
+-- `totals::writing::print` hands on what was read; the report is that of any input that it was read from, since there was room for more bytes than a tape may have.
 use native.Mathlib.Nat.{sub-zero}
-use lib.ListN.{take}
 use borrow.Author.Needs.{needs}
+use Rattle.totals.proofs.Stopping.{ends-input}
 use Rattle.totals.proofs.writing.print.Statement.{statement}
 use Rattle.totals.proofs.writing.print.Tie as tie
 use Rattle.totals.proofs.writing.print.Reads as reads
 use Rattle.totals.proofs.writing.print.Lts as lts
-use Rattle.totals_check.proofs.judging.judge.Reads as judge-reads
-use Rattle.totals.proofs.writing.print_loaded.Reads as print-loaded-reads
-use Rattle.totals.proofs.loading.load.Reads as load-reads
+use Rattle.totals.proofs.writing.print_tape.Reads as print-tape-reads
 
--- src/writing.rt:59:9
-judge-requires : tie.Need-judge-requires
-judge-requires c κs = search needs
+sub-print-tape : tie.Need-sub-print-tape
+sub-print-tape c = search needs
 
--- src/writing.rt:60:9
-load-requires : tie.Need-load-requires
-load-requires c κs = search needs
+part-print-tape-start : tie.Need-part-print-tape-start
+part-print-tape-start c = search needs
 
--- src/writing.rt:61:32
-sub-print-loaded : tie.Need-sub-print-loaded
-sub-print-loaded c = search needs
+part-print-tape-end : tie.Need-part-print-tape-end
+part-print-tape-end c = search needs
 
--- src/writing.rt:61:32
-part-print-loaded-start : tie.Need-part-print-loaded-start
-part-print-loaded-start c = search needs
+print-tape-requires : tie.Need-print-tape-requires
+print-tape-requires c κs = search needs
 
--- src/writing.rt:61:32
-part-print-loaded-end : tie.Need-part-print-loaded-end
-part-print-loaded-end c = search needs
-
--- src/writing.rt:61:5
-print-loaded-requires : tie.Need-print-loaded-requires
-print-loaded-requires c κs =
-    let s = c .before .before .before .before .before .before .before .before .before .before .before in
-    let l = c .before .before .before .before .before .before .load in
-    (c .before .before .before .before .before .before .before .before .judge .ensures, λ z. ap (λ k. take k (l .last .1 .1 .0)) (sub-zero (l .result)) ∙ l .ensures .1 z .0, s .pre .1, s .pre .2, s .pre .3)
-
--- src/writing.rt:56:1
 same-length : tie.Need-same-length
 same-length c = search needs
 
--- src/writing.rt:56:1
 same-length-2 : tie.Need-same-length-2
 same-length-2 c = search needs
 
--- src/writing.rt:56:1
 same-length-3 : tie.Need-same-length-3
 same-length-3 c = search needs
 
--- src/writing.rt:56:1
 same-length-4 : tie.Need-same-length-4
 same-length-4 c = search needs
 
--- src/writing.rt:56:1
 returns : tie.Need-returns
-returns c = search needs
+returns c =
+    let s = c .before .before .before .before .before .before .before .before .before .before .before .before .before in
+    let report = c .before .before .before .before .before .print-tape in
+    λ input h. ends-input (s .args .space .now) input (s .args .n) (report .result) (s .pre .0) h (rw (sub-zero (s .args .n)) at (report .ensures))
 
 pub print-spec : {M : Type 1} → statement M
 print-spec =
     tie.close
     (tie.spec
-    judge-requires
-    load-requires
-    sub-print-loaded
-    part-print-loaded-start
-    part-print-loaded-end
-    print-loaded-requires
+    sub-print-tape
+    part-print-tape-start
+    part-print-tape-end
+    print-tape-requires
     same-length
     same-length-2
     same-length-3
