@@ -3,9 +3,11 @@ use Prim.Native.Nat.{ℕ, zero, suc, _*_, _%_}
 use mathlib.Core.Bool.{Bool, _||_, not}
 use mathlib.Core.List.{List, [], _∷_, _++_}
 use lib.Dec.{eqb}
-use lib.ListN.{length}
+use lib.ListN.{length, getD, take, drop}
 use Rattle.cube_spec.specs.Bytes.{little}
+use Rattle.cube_spec.specs.Boxes.{table}
 use Rattle.cube_spec.specs.Checks.{Check, check, first}
+use Rattle.plan_spec.specs.Plans.{PlanLists, find}
 use Rattle.plan_spec.specs.Rule.{order, orderedExponents}
 use Rattle.plan_spec.specs.Refusals.{planningChecks}
 
@@ -41,3 +43,10 @@ writtenOr (suc n) ds p result = result
 -- the result slice afterwards, unchanged on a refusal
 unfoldable pub written : List ℕ → ℕ → List ℕ → List ℕ
 written bytes p result = writtenOr (controllerRefusal bytes p (length result)) (pairs bytes) p result
+
+-- the plan of the lengths ds that 2n bytes hold
+unfoldable pub planIn : List ℕ → ℕ → List ℕ → PlanLists
+planIn ds p bytes =
+    let o = take (length ds) bytes in
+    let ks = drop (length ds) bytes in
+    record { lengths = ds; order = o; exponents = table (length ds) (λ a. getD ks (find a o) 0); p = p }

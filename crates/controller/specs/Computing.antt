@@ -4,5 +4,5 @@ use Rattle.controller.specs.Bytes
 use Rattle.plan_spec.specs.Computing as planner
 
 unfoldable pub computing : ℕ
-unfolding Bytes.pairs Bytes.oddBytes Bytes.wrongResult Bytes.controllerChecks Bytes.controllerRefusal Bytes.writtenOr Bytes.written planner.computing
+unfolding Bytes.pairs Bytes.oddBytes Bytes.wrongResult Bytes.controllerChecks Bytes.controllerRefusal Bytes.writtenOr Bytes.written Bytes.planIn planner.computing
 computing = 0

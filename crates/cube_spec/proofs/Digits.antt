@@ -1,17 +1,17 @@
 -- Laws of a mask's digits.
 use Prim.Native.Nat.{ℕ, zero, suc, _≤_, _<_, _-_, _+_, _*_, _/_, _%_, _^_}
 use mathlib.Core.Path.{_≡_, sym, _∙_, refl, ap}
-use mathlib.Core.Bool.{Bool, true, false}
+use mathlib.Core.Bool.{Bool, true, false, _&&_, _||_, not}
 use native.Mathlib.Omega.{arith}
-use native.Mathlib.Nat.{div-eq-of-lt, mul-assoc, add-mul-div-right, add-mul-mod-self-right, mul-add-mod-self-right, mod-eq-of-lt, two-pow-succ, div-add-mod', mod-lt}
+use native.Mathlib.Nat.{div-eq-of-lt, mul-assoc, add-mul-div-right, add-mul-mod-self-right, mul-add-mod-self-right, mod-eq-of-lt, two-pow-succ, div-add-mod', mod-lt, zero-add}
 use native.Mathlib.Decide.{decLe}
 use borrow.Author.Tests.{eq-eqb, ne-eqb, eqb-true, eqb-false}
 use lib.Dec.{eqb}
 use lib.Pow.{pow-pos, pow-lt, pow-add}
 use Rattle.cube_spec.specs.Boxes.{pick, sumN}
-use Rattle.cube_spec.specs.Choices.{keeps, fullMask, withoutMask}
+use Rattle.cube_spec.specs.Choices.{keeps, fullMask, withoutMask, withMask}
 use Rattle.cube_spec.proofs.Sums.{by}
-use Rattle.cube_spec.proofs.Naturals.{sumN-cong}
+use Rattle.cube_spec.proofs.Naturals.{sumN-cong, sumN-but-one}
 
 -- a set digit is at most the number
 pub digit-le : {m b : ℕ} → m / b % 2 ≡ 1 → b ≤ m
@@ -153,3 +153,50 @@ powers-all n = let q = one-more n in (unfold fullMask in omega arith)
 
 pub keeps-full : (n d : ℕ) → d < n → keeps (fullMask n) d ≡ true
 keeps-full n d h = rw (← powers-all n) (keeps-powers (λ a. true) n d h)
+
+-- ---- which axes a choice keeps that sums out or keeps one axis more
+
+pub with-kept : (mask d : ℕ) → keeps mask d ≡ true → withMask mask d ≡ mask
+unfolding withMask
+with-kept mask d h = rw h
+
+pub with-summed : (mask d : ℕ) → keeps mask d ≡ false → withMask mask d ≡ mask + 2 ^ d
+unfolding withMask
+with-summed mask d h = rw h
+
+below-power : (n : ℕ) → n < 2 ^ n
+below-power zero = omega arith
+below-power (suc n) = let i = below-power n in let p = two-pow-succ n in omega arith
+
+-- a mask is the sum of its digits up to any place past it
+mask-powers : (mask n : ℕ) → mask ≤ n → powers (keeps mask) n ≡ mask
+mask-powers mask n h = powers-mod mask n ∙ mod-eq-of-lt (let q = below-power n in omega arith)
+
+-- one digit more
+powers-one : (b c : ℕ → Bool) (n d : ℕ) → d < n → b d ≡ true → c d ≡ false → ((a : ℕ) → (a ≡ d → ⊥) → b a ≡ c a) → powers b n ≡ powers c n + 2 ^ d
+unfolding powers
+powers-one b c n d h t f same =
+    sumN-but-one n d (2 ^ d) (λ a. pick (b a) (2 ^ a) 0) (λ a. pick (c a) (2 ^ a) 0) h (rw (t, f) (sym (zero-add (2 ^ d)))) (λ a l ne. ap (λ t. pick t (2 ^ a) 0) (same a ne))
+
+pub keeps-with : (mask d e : ℕ) → keeps (withMask mask d) e ≡ (eqb e d || keeps mask e)
+keeps-with mask d e =
+    by (keeps mask d)
+    (λ t. rw (with-kept mask d t) (by (eqb e d) (λ s. rw s (ap (keeps mask) (eqb-true e d s) ∙ t)) (λ s. rw s refl)))
+    (λ t.
+    let n = suc (mask + d + e) in
+    let b : ℕ → Bool = λ a. eqb a d || keeps mask a in
+    let one = powers-one b (keeps mask) n d (omega arith) (rw (eq-eqb d d refl) refl) t (λ a ne. rw (ne-eqb a d ne) refl) in
+    let m : mask + 2 ^ d ≡ powers b n = sym (one ∙ ap (λ x. x + 2 ^ d) (mask-powers mask n (omega arith))) in
+    rw (with-summed mask d t) (ap (λ x. keeps x e) m ∙ keeps-powers b n e (omega arith)))
+
+pub keeps-without : (mask d e : ℕ) → keeps (withoutMask mask d) e ≡ (not (eqb e d) && keeps mask e)
+keeps-without mask d e =
+    by (keeps mask d)
+    (λ t.
+    let n = suc (mask + d + e) in
+    let c : ℕ → Bool = λ a. not (eqb a d) && keeps mask a in
+    let one = powers-one (keeps mask) c n d (omega arith) t (rw (eq-eqb d d refl) refl) (λ a ne. rw (ne-eqb a d ne) refl) in
+    let whole = mask-powers mask n (omega arith) in
+    let m : mask - 2 ^ d ≡ powers c n = omega arith in
+    rw (without-kept mask d t) (ap (λ x. keeps x e) m ∙ keeps-powers c n e (omega arith)))
+    (λ t. rw (without-summed mask d t) (by (eqb e d) (λ s. rw s (ap (keeps mask) (eqb-true e d s) ∙ t)) (λ s. rw s refl)))

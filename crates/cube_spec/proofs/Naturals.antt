@@ -109,3 +109,20 @@ sumN-first-only (suc zero) h = refl
 sumN-first-only (suc (suc n)) h =
     let q : sumN (suc n) (λ l. pick (eqb l 0) 1 0) ≡ 1 = sumN-first-only (suc n) (omega arith) in
     rw (ne-eqb (suc n) 0 (λ e. omega arith)) (unfold sumN in (let z = add-zero (sumN (suc n) (λ l. pick (eqb l 0) 1 0)) in z ∙ q))
+
+-- two sums that differ in one term
+pub sumN-but-one : (n k v : ℕ) (f h : ℕ → ℕ) → k < n → f k ≡ h k + v → ((i : ℕ) → i < n → (i ≡ k → ⊥) → f i ≡ h i) → sumN n f ≡ sumN n h + v
+unfolding sumN
+sumN-but-one zero k v f h l e same = absurd (omega arith)
+sumN-but-one (suc n) k v f h l e same =
+    by (eqb n k)
+    (λ t.
+    let q = eqb-true n k t in
+    let a = sumN-cong n (λ i r. same i (omega arith) (λ z. omega arith)) in
+    let b : f n ≡ h n + v = (rw q e) in
+    omega arith)
+    (λ t.
+    let ne = eqb-false n k t in
+    let a = sumN-but-one n k v f h (omega (arith, ne)) e (λ i r. same i (omega arith)) in
+    let b = same n (omega arith) ne in
+    omega arith)

@@ -10,7 +10,8 @@ use contract.Lifetimes.{Lfts}
 use borrow.Fn.World.{ArgsD, ResD}
 use denote.Triple.Clauses.{AtExit}
 use Rattle.cube_spec.specs.Checks.{gives}
-use Rattle.cube_spec.specs.Choices.{fullMask, keeps}
+use Rattle.cube_spec.specs.Choices.{fullMask, keeps, withMask}
+use Rattle.cube_spec.specs.Tree.{parentOf}
 use Rattle.cube_spec.specs.Ways.{Way, Division, movedBy, addedBy}
 use Rattle.plan_spec.specs.declared.types.Planned.{Planned}
 use Rattle.plan_spec.specs.Plans as Plans
@@ -23,6 +24,10 @@ use Rattle.plan_spec.specs.Answers.{pricesOf, pricing, plannedAs, planning}
 use Rattle.plan_spec.proofs.Accepting.{planning-accepted, planned-accepted, lists-slotted}
 use Rattle.plan_spec.proofs.PricingLaws.{answer-given}
 use Rattle.plan_spec.proofs.Demand.{Least, demand, plan-sound}
+use Rattle.rack_spec.specs.Grids.{gridOf, maskOf, summed}
+use Rattle.rack_spec.specs.Pointed.{HasPoint, Pointed}
+use Rattle.rack_spec.proofs.Divided.{pointed-division, sound-pointed}
+use Rattle.rack_spec.proofs.Parents.{tree-parent}
 use Rattle.plan_entry.proofs.planning.plan.{signature, ended}
 use Rattle.plan_entry.proofs.planning.plan.Reads as reads
 
@@ -30,11 +35,16 @@ use Rattle.plan_entry.proofs.planning.plan.Reads as reads
 pub record Best (l : List ℕ) (p : ℕ) (r : Planned) : Type 0 where
   pub moved-least : (e : Division l p) (w : Way (length l)) → r .prices .moved ≤ movedBy l e w
   pub added-least : (w : Way (length l)) → r .prices .added ≤ addedBy l w
+  -- in the demand's own words, over exponents of any size that sum to p and give each of the 2^p boards a point: these are the divisions (boards/Divided)
+  pub pointed-least : (c : Pointed l p) (w : Way (length l)) → r .prices .moved ≤ movedBy l (pointed-division c) w
   -- the returned plan's exponents are a division, and its tree is a way: a choice's parent has the last axis more, in the returned order, that the choice sums out
   pub division : Division l p
   pub way : Way (length l)
   pub exponents : division .exponents ≡ listsOf (r .plan) .exponents
   pub axes : (mask : ℕ) → mask < fullMask (length l) → way .axis mask ≡ lastSummed (keeps mask) 0 (listsOf (r .plan) .order)
+  -- that parent is the one in the tree of the returned plan, and each board of that plan has a point
+  pub parents : (mask : ℕ) → mask < fullMask (length l) → maskOf (gridOf (listsOf (r .plan))) (parentOf (summed (gridOf (listsOf (r .plan))) mask)) ≡ withMask mask (way .axis mask)
+  pub points : (b : ℕ) → HasPoint (gridOf (listsOf (r .plan))) b
   pub moves : movedBy l division way ≡ r .prices .moved
   pub adds : addedBy l way ≡ r .prices .added
   -- pricing gives the returned plan the same prices
@@ -83,15 +93,20 @@ answer-best l p e =
     let least = demand l p (ok .lengths .some) (ok .enough) in
     let c = prices-of (planningRefusal l p) (planOf l p) z in
     let q = plan-of (planningRefusal l p) (planOf l p) z in
+    let s : listsOf (plannedAs (planningRefusal l p) (planOf l p) .plan) ≡ planOf l p = ap listsOf q ∙ lists-planned l p ok in
+    let sound = plan-sound l p (ok .lengths .some) (ok .enough) in
     let m : plannedAs (planningRefusal l p) (planOf l p) .prices .moved ≡ Plans.moved (planOf l p) = (rw c (unfold pricesOf in refl)) in
     let a : plannedAs (planningRefusal l p) (planOf l p) .prices .added ≡ Plans.added (planOf l p) = (rw c (unfold pricesOf in refl)) in
     record {
       moved-least = λ d w. rw m (least .moves-least d w);
       added-least = λ w. rw a (least .adds-least w);
+      pointed-least = λ c w. rw m (least .moves-least (pointed-division c) w);
       division = least .division;
       way = least .way;
       exponents = rw q (least .exponents ∙ exponents-planned l p ok);
       axes = λ mask h. rw q (least .axes mask h ∙ axis-planned l p ok mask);
+      parents = λ mask h. ap (λ (x : PlanLists). maskOf (gridOf x) (parentOf (summed (gridOf x) mask))) s ∙ tree-parent l p mask sound h ∙ ap (withMask mask) (sym (least .axes mask h));
+      points = λ b. subst (λ (x : PlanLists). HasPoint (gridOf x) b) (sym s) (sound-pointed (planOf l p) sound b);
       moves = least .moves ∙ sym m;
       adds = least .adds ∙ sym a;
       priced = rw (q, c) (priced-planned l p ok (planned-accepted l p z));

@@ -1,10 +1,7 @@
 // The step at a position of a plan's list, found without listing.
 ghost use mathlib.Core.Path.{_≡_};
-ghost use Prim.Native.Nat.{ℕ, _+_, _-_, _*_, _≤_, _<_};
+ghost use Prim.Native.Nat.{ℕ, _-_};
 ghost use Rattle.plan_spec.specs.Refusals.{planRefusal};
-ghost use lib.ListN.{getD};
-ghost use Rattle.cube_spec.specs.Choices.{withoutMask};
-ghost use Rattle.rack_spec.specs.Counts.{walkCount};
 ghost use Rattle.rack_spec.specs.Steps.{visit, walk, steps};
 ghost use Rattle.rack_spec.specs.Finding.{planGrid, summedIn, found, Walking, Sending};
 ghost use Rattle.rack_spec.specs.Answers.{told, telling, toldAt, toldOf};
@@ -43,84 +40,33 @@ fn sending(plan: Plan, choice: Choice, d: usize, at: u64) -> Transfer
     }
 }
 
-// A child of a walk: the choice, the place of the axis that it sums out last, how many labellings the kept axes before it have, and the steps of the later children, which are taken first.
-pub struct Child {
-    pub choice: Choice,
-    pub d: usize,
-    pub n: u64,
-    pub later: u64,
-}
-
-// The child of the walk from place `first` on whose later siblings are done at a position; the place past the last axis if there is none.
-fn child_at(
-    plan: Plan,
-    choice: Choice,
-    first: usize,
-    labellings: u64,
-    at: u64,
-    tallies: Tallies,
-) -> Child
-    requires { ⌜ (Walking plan (choice .mask) first labellings) × (Tallied plan tallies) ⌝ }
-    ensures { λ r. ⌜ (Walking plan (choice .mask) (r .d) (r .n)) × (first ≤ r .d)
-        × (toldAt (planGrid plan) (walk (planGrid plan) (plan .axes - r .d) (r .d) (summedIn plan (choice .mask))) at ≡ toldAt (planGrid plan) (walk (planGrid plan) (plan .axes - first) first (summedIn plan (choice .mask))) at)
-        × (r .d < plan .axes → (r .later ≡ walkCount (planGrid plan) (plan .axes - (r .d + 1)) (r .d + 1) (r .n * planGrid plan .parts (r .d))) × (r .later ≤ at) × (r .choice .mask ≡ withoutMask (choice .mask) (getD (plan .order) (r .d) 0))) ⌝ }
-{
-    let mut d = first;
-    let mut n = labellings;
-    while d < plan.axes as usize {
-        let axis = plan.order[d];
-        let more = n * (1u64 << plan.exponents[axis as usize]);
-        let later = count_with(tallies.sent[d + 1], plan.axes as usize - (d + 1), more);
-        if later <= at {
-            let child = choice.without(axis);
-            return Child {
-                choice: child,
-                d,
-                n,
-                later,
-            };
-        }
-        n = more;
-        d += 1;
-    }
-    Child {
-        choice,
-        d,
-        n,
-        later: 0,
-    }
-}
-
-// The step at a position of the walk over the children of a choice from place d on, taken from right to left: the later children, then the transfers
-// of the child that sums out the axis at d, then its visit. The axes before d that the choice keeps have n labellings.
+// The step at a position of the walk over the children of a choice from place d on, taken from right to left: the later children by the walk over the axes after d,
+// then the transfers of the child that sums out the axis at d, then its visit. The axes before d that the choice keeps have n labellings.
 fn walk(plan: Plan, choice: Choice, d: usize, n: u64, at: u64, tallies: Tallies) -> Step
     requires { ⌜ (Walking plan (choice .mask) d n) × (Tallied plan tallies) ⌝ }
     ensures { λ r. ⌜ told r ≡ toldAt (planGrid plan) (walk (planGrid plan) (plan .axes - d) d (summedIn plan (choice .mask))) at ⌝ }
 {
-    let found = child_at(plan, choice, d, n, at, tallies);
-    let e = found.d;
-    if e == plan.axes as usize {
+    if d == plan.axes as usize {
         return Step::Done;
     }
-    let child = found.choice;
-    let sent = transfer_count(plan, e, found.n, tallies);
-    if at - found.later < sent {
-        return Step::Transfer(sending(plan, child, e, at - found.later));
+    let axis = plan.order[d];
+    let more = n * (1u64 << plan.exponents[axis as usize]);
+    let later = count_with(tallies.sent[d + 1], plan.axes as usize - (d + 1), more);
+    if at < later {
+        return walk(plan, choice, d + 1, more, at, tallies);
     }
-    visit(
-        plan,
-        child,
-        e + 1,
-        found.n,
-        at - found.later - sent,
-        tallies,
-    )
+    let child = choice.without(axis);
+    let sent = transfer_count(plan, d, n, tallies);
+    if at - later < sent {
+        return Step::Transfer(sending(plan, child, d, at - later));
+    }
+    visit(plan, child, d + 1, n, at - later - sent, tallies)
 }
 
 // The step at a position of the visit of a choice whose children begin at place d: it is expanded if it has any, and finished after them.
 fn visit(plan: Plan, choice: Choice, d: usize, n: u64, at: u64, tallies: Tallies) -> Step
     requires { ⌜ (Walking plan (choice .mask) d n) × (Tallied plan tallies) ⌝ }
-    ensures { λ r. ⌜ told r ≡ toldAt (planGrid plan) (visit (summedIn plan (choice .mask)) (plan .axes - d) (walk (planGrid plan) (plan .axes - d) d (summedIn plan (choice .mask)))) at ⌝ }
+    ensures { λ r. ⌜ told r ≡ toldAt (planGrid plan) (visit (walk (planGrid plan) (plan .axes - d) d) (plan .axes - d) (summedIn plan (choice .mask))) at ⌝ }
 {
     if d == plan.axes as usize {
         if at == 0 {

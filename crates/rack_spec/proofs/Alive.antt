@@ -13,7 +13,7 @@ use Rattle.cube_spec.proofs.Sums.{by}
 use Rattle.cube_spec.proofs.Naturals.{clash}
 use Rattle.cube_spec.proofs.Sets.{Down, down-up, down-out, has-head}
 use Rattle.rack_spec.specs.Grids.{Grid, boards}
-use Rattle.rack_spec.specs.Steps.{TreeStep, expand, finish, transfers, visit, walk, steps}
+use Rattle.rack_spec.specs.Steps.{TreeStep, expand, finish, transfers, around, walk, steps}
 use Rattle.rack_spec.specs.Held.{same, expandsIt, finishesIt, own, heldAfter, held}
 use Rattle.rack_spec.specs.Finding.{into, visited, heldWalk}
 use Rattle.rack_spec.proofs.Finishing.{same-refl}
@@ -72,10 +72,10 @@ without-last t s e v l =
     let o : fits t (take (v - length l) (s ∷ [])) ≡ false = fits-first t (v - length l) (s ∷ []) (simp e refl) in
     ap (fits t) (take-joined v l (s ∷ [])) ∙ fits-joined t (take v l) (take (v - length l) (s ∷ [])) ∙ by (fits t (take v l)) (λ x. simp (x, o) refl) (λ x. simp (x, o) refl)
 
-visit-finish : (g : Grid) (m d : ℕ) (Y : List ℕ) → Down Y d → (v : ℕ) → not (fits (finishesIt Y) (take v (visit Y m (walk g m d Y)))) ≡ ltb v (length (visit Y m (walk g m d Y)))
+visit-finish : (g : Grid) (m d : ℕ) (Y : List ℕ) → Down Y d → (v : ℕ) → not (fits (finishesIt Y) (take v (around Y m (walk g m d Y)))) ≡ ltb v (length (around Y m (walk g m d Y)))
 visit-finish g m d Y h v = ends m (walk g m d Y) (walk-none (seeks-finish Y) g m d Y (λ j W l x q. differ (j ∷ W) Y j (has-head j W) (down-out Y d j h l) (sym q))) v
   where
-    ends : (m : ℕ) (l : List TreeStep) → fits (finishesIt Y) l ≡ false → (v : ℕ) → not (fits (finishesIt Y) (take v (visit Y m l))) ≡ ltb v (length (visit Y m l))
+    ends : (m : ℕ) (l : List TreeStep) → fits (finishesIt Y) l ≡ false → (v : ℕ) → not (fits (finishesIt Y) (take v (around Y m l))) ≡ ltb v (length (around Y m l))
     ends zero l e v = finish-last Y l e v ∙ ap (ltb v) (sym (length-append l (finish Y ∷ [])))
     ends (suc m) l e v = finish-last Y (expand Y ∷ l) (unfold fits in e) v ∙ ap (ltb v) (sym (length-append (expand Y ∷ l) (finish Y ∷ [])))
 
@@ -94,7 +94,7 @@ module _ (g : Grid) (b : ℕ) where
   alive l Y Z = pick ((same (parentOf Z) Y || fits (expandsIt (parentOf Z)) l) && not (fits (finishesIt Z) l)) (own g b Z) 0
 
   -- the visit's first step expands Y
-  opened : (m d : ℕ) (Y : List ℕ) (v j : ℕ) (W : List ℕ) → Down Y d → d ≤ j → seen (take (suc v) (visit Y (suc m) (walk g (suc m) d Y))) (j ∷ W) ≡ alive (take v (walk g (suc m) d Y)) Y (j ∷ W)
+  opened : (m d : ℕ) (Y : List ℕ) (v j : ℕ) (W : List ℕ) → Down Y d → d ≤ j → seen (take (suc v) (around Y (suc m) (walk g (suc m) d Y))) (j ∷ W) ≡ alive (take v (walk g (suc m) d Y)) Y (j ∷ W)
   unfolding fits
   opened m d Y v j W h l =
       let e = without-last (expandsIt W) (finish Y) refl v (walk g (suc m) d Y) in
@@ -102,7 +102,7 @@ module _ (g : Grid) (b : ℕ) where
       let f = without-last (finishesIt (j ∷ W)) (finish Y) o v (walk g (suc m) d Y) in
       simp (e, f) refl
 
-  visit-alive : (m d : ℕ) (Y : List ℕ) (v : ℕ) → Down Y d → overSetsFrom (seen (take v (visit Y m (walk g m d Y)))) m d Y ≡ pick (eqb v 0) 0 (overSetsFrom (alive (take (v - 1) (walk g m d Y)) Y) m d Y)
+  visit-alive : (m d : ℕ) (Y : List ℕ) (v : ℕ) → Down Y d → overSetsFrom (seen (take v (around Y m (walk g m d Y)))) m d Y ≡ pick (eqb v 0) 0 (overSetsFrom (alive (take (v - 1) (walk g m d Y)) Y) m d Y)
   unfolding fits
   visit-alive zero d Y v h = unfold overSetsFrom in by (eqb v 0) (λ e. simp e refl) (λ e. simp e refl)
   visit-alive (suc m) d Y zero h = over-none (suc m) d Y

@@ -14,7 +14,7 @@ use Rattle.cube_spec.proofs.Sums.{by}
 use Rattle.cube_spec.proofs.Naturals.{clash}
 use Rattle.cube_spec.proofs.Sets.{has-other}
 use Rattle.rack_spec.specs.Grids.{Grid, boards, lead}
-use Rattle.rack_spec.specs.Steps.{TreeStep, expand, transfer, finish, each, sends, transfers, visit, walk}
+use Rattle.rack_spec.specs.Steps.{TreeStep, expand, transfer, finish, each, sends, transfers, around, walk}
 use Rattle.rack_spec.specs.Held.{same, expandsIt, finishesIt, expansions, finishes}
 use Rattle.rack_spec.proofs.Finishing.{same-true}
 
@@ -111,7 +111,7 @@ module _ {t : TreeStep → Bool} {Z : List ℕ} (s : Seeks t Z) (g : Grid) where
       each-none t n _ (λ b. by (lead g Y b) (λ e. rw e (each-none t (g .parts (lastOf Y) - 1) _ (λ l. rw (s .no-transfer Y _ b _)))) (λ e. rw e))
 
   -- a visit of a choice that is not Z, whose walk has no Z
-  pub visit-none : (m : ℕ) (Y : List ℕ) (inner : List TreeStep) → (Z ≡ Y → ⊥) → fits t inner ≡ false → fits t (visit Y m inner) ≡ false
+  pub visit-none : (m : ℕ) (Y : List ℕ) (inner : List TreeStep) → (Z ≡ Y → ⊥) → fits t inner ≡ false → fits t (around Y m inner) ≡ false
   unfolding fits
   visit-none zero Y inner n e = joined-none t inner (finish Y ∷ []) e (rw (s .other-finish Y n))
   visit-none (suc m) Y inner n e = rw (s .other-expand Y n) (joined-none t inner (finish Y ∷ []) e (rw (s .other-finish Y n)))

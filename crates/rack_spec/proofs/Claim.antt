@@ -14,19 +14,11 @@ use Rattle.plan_spec.specs.Plans.{PlanLists, Sound, moved, boardCount, stepCoun
 use Rattle.rack_spec.specs.Grids.{Grid, gridOf}
 use Rattle.rack_spec.specs.Steps.{TreeStep, expand, transfer, finish, steps, valuesOf, values}
 use Rattle.rack_spec.specs.Held.{held}
-use Rattle.rack_spec.specs.Answers.{Told, expands, transfers, finishes, done, refused, telling}
+use Rattle.rack_spec.specs.Answers.{Told, done, telling, reportedBy}
 use Rattle.rack_spec.proofs.Lawful.{grid-lawful}
 use Rattle.rack_spec.proofs.Moving.{values-moved}
 use Rattle.rack_spec.proofs.Counting.{board-count, steps-length}
 use Rattle.rack_spec.proofs.Holding.{held-most}
-
--- the number of values that an answer reports
-abbrev pub reportedBy : Told → ℕ
-reportedBy (expands c) = 0
-reportedBy (transfers s r c n) = n
-reportedBy (finishes c) = 0
-reportedBy done = 0
-reportedBy (refused n) = 0
 
 -- a call that is not refused, given the step at its position: what it answers, and where it leaves the position
 abbrev pub answers : Grid → Option TreeStep → Told

@@ -13,7 +13,7 @@ use Rattle.cube_spec.specs.Boxes.{pick, product, sumN}
 use Rattle.cube_spec.specs.Tree as Tree
 use Rattle.cube_spec.specs.Tree.{sent, sumOver, has, kept, lastOf, overSetsFrom}
 use Rattle.rack_spec.specs.Grids.{gridOf, Grid, Lawful, boards, label, lead}
-use Rattle.rack_spec.specs.Steps.{TreeStep, each, finish, steps, sends, transfers, visit, walk}
+use Rattle.rack_spec.specs.Steps.{TreeStep, each, finish, steps, sends, transfers, around, walk}
 use Rattle.cube_spec.proofs.Sums.{by}
 use Rattle.cube_spec.proofs.Boxing.{product-cong}
 use Rattle.cube_spec.proofs.Products.{product-zero, product-sum, product-ones}
@@ -73,10 +73,10 @@ module _ (g : Grid) (ok : Lawful g) where
   unfoldable pub Taken : List ℕ → ℕ
   Taken Z = (g .parts (lastOf Z) - 1) * product (kept Z (g .parts)) (g .axes) 0
 
-  visit-length : (Y : List ℕ) (m : ℕ) (inner : List TreeStep) → length (visit Y (suc m) inner) ≡ suc (suc (length inner))
+  visit-length : (Y : List ℕ) (m : ℕ) (inner : List TreeStep) → length (around Y (suc m) inner) ≡ suc (suc (length inner))
   visit-length Y m inner = ap suc (length-append inner (finish Y ∷ []) ∙ (let z : length inner + 1 ≡ suc (length inner) = omega arith in z))
 
-  pub walk-parts : (m d : ℕ) (Y : List ℕ) → length (walk g (suc m) d Y) ≡ length (walk g m (d + 1) Y) + (length (transfers g (d ∷ Y) (boards g)) + length (visit (d ∷ Y) m (walk g m (d + 1) (d ∷ Y))))
+  pub walk-parts : (m d : ℕ) (Y : List ℕ) → length (walk g (suc m) d Y) ≡ length (walk g m (d + 1) Y) + (length (transfers g (d ∷ Y) (boards g)) + length (around (d ∷ Y) m (walk g m (d + 1) (d ∷ Y))))
   unfolding walk
   walk-parts m d Y = length-append (walk g m (d + 1) Y) _ ∙ ap (λ n. length (walk g m (d + 1) Y) + n) (length-append (transfers g (d ∷ Y) (boards g)) _)
 
@@ -89,7 +89,7 @@ module _ (g : Grid) (ok : Lawful g) where
   taken-length m d Y e h = transfers-length Y d (omega arith, h)
 
   -- with no child more there is a finish alone
-  pub last-walk : (d : ℕ) (Y : List ℕ) → (length (walk g 0 d Y) ≡ 0) × (length (visit Y 0 (walk g 0 d Y)) ≡ 1) × (overSetsFrom Taken 0 d Y ≡ 0)
+  pub last-walk : (d : ℕ) (Y : List ℕ) → (length (walk g 0 d Y) ≡ 0) × (length (around Y 0 (walk g 0 d Y)) ≡ 1) × (overSetsFrom Taken 0 d Y ≡ 0)
   unfolding walk overSetsFrom
   last-walk d Y = (refl, refl, refl)
 

@@ -11,7 +11,7 @@ use Rattle.cube_spec.proofs.Sets.{Down, down-up}
 use Rattle.cube_spec.specs.Boxes.{pick}
 use Rattle.cube_spec.specs.Tree.{next}
 use Rattle.rack_spec.specs.Grids.{Grid, boards, withLabel, lead, cells}
-use Rattle.rack_spec.specs.Steps.{TreeStep, each, expand, finish, steps, sends, transfer, transfers, visit, walk}
+use Rattle.rack_spec.specs.Steps.{TreeStep, each, expand, finish, steps, sends, transfer, transfers, around, walk}
 
 none-some : {s : TreeStep} → _≡_ {A = Option TreeStep} none (some s) → ⊥
 none-some e = let z : _≡_ {A = ℕ} 0 1 = cc in omega arith
@@ -56,7 +56,7 @@ module _ (P : TreeStep → Type 0) where
         one b h true e = every-each (g .parts j - 1) _ (λ l r. (on-transfer Y j b l d h e (omega arith), tt))
         one b h false e = tt
 
-    every-visit : (Y : List ℕ) (m : ℕ) (inner : List TreeStep) → Down Y (g .axes) → 0 < next Y → Every inner → Every (visit Y m inner)
+    every-visit : (Y : List ℕ) (m : ℕ) (inner : List TreeStep) → Down Y (g .axes) → 0 < next Y → Every inner → Every (around Y m inner)
     every-visit Y zero inner d n h = every-append inner (finish Y ∷ []) h (on-finish Y d n, tt)
     every-visit Y (suc m) inner d n h = (on-expand Y d, every-append inner (finish Y ∷ []) h (on-finish Y d n, tt))
 

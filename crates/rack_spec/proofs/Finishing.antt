@@ -12,7 +12,7 @@ use Rattle.cube_spec.specs.Boxes.{pick}
 use Rattle.cube_spec.specs.Tree.{has, lastOf}
 use Rattle.rack_spec.specs.Grids.{Grid, setOf, boards, lead}
 use Rattle.rack_spec.specs.Held.{finishesIt, finishes, same}
-use Rattle.rack_spec.specs.Steps.{TreeStep, each, expand, finish, steps, sends, transfer, transfers, visit, walk}
+use Rattle.rack_spec.specs.Steps.{TreeStep, each, expand, finish, steps, sends, transfer, transfers, around, walk}
 use Rattle.cube_spec.proofs.Sums.{by}
 use Rattle.cube_spec.proofs.Naturals.{both, clash}
 use Rattle.cube_spec.proofs.Sets.{Down, down-out, has-head, has-other}
@@ -68,7 +68,7 @@ finishes-end : (Y Z : List ℕ) (inner : List TreeStep) → finishes Y (inner ++
 unfolding finishes
 finishes-end Y Z inner = finishes-append Y inner (finish Z ∷ []) ∙ ap (λ n. finishes Y inner + n) (add-zero (pick (same Y Z) 1 0))
 
-finishes-visit : (Y Z : List ℕ) (m : ℕ) (inner : List TreeStep) → finishes Y (visit Z m inner) ≡ finishes Y inner + pick (same Y Z) 1 0
+finishes-visit : (Y Z : List ℕ) (m : ℕ) (inner : List TreeStep) → finishes Y (around Z m inner) ≡ finishes Y inner + pick (same Y Z) 1 0
 unfolding finishes
 finishes-visit Y Z zero inner = finishes-end Y Z inner
 finishes-visit Y Z (suc m) inner = zero-add (finishes Y (inner ++ (finish Z ∷ []))) ∙ finishes-end Y Z inner
@@ -77,7 +77,7 @@ finishes-walk : (g : Grid) (Z : List ℕ) (m d : ℕ) (Y : List ℕ) → finishe
 unfolding walk
 finishes-walk g Z m d Y =
     let inner = walk g m (d + 1) (d ∷ Y) in
-    let p = finishes-append Z (transfers g (d ∷ Y) (boards g)) (visit (d ∷ Y) m inner) in
+    let p = finishes-append Z (transfers g (d ∷ Y) (boards g)) (around (d ∷ Y) m inner) in
     let q = finishes-transfers g Z (d ∷ Y) (boards g) in
     let r = finishes-visit Z (d ∷ Y) m inner in
     finishes-append Z (walk g m (d + 1) Y) _ ∙ ap (λ n. finishes Z (walk g m (d + 1) Y) + n) (p ∙ ap₂ _+_ q r ∙ zero-add _)

@@ -13,7 +13,7 @@ use Rattle.cube_spec.specs.Tree.{has, kept}
 use Rattle.cube_spec.proofs.Sums.{by}
 use Rattle.cube_spec.proofs.Products.{product-le}
 use Rattle.rack_spec.specs.Grids.{Grid, Lawful, boards, label, lead, extent, box, cells}
-use Rattle.rack_spec.specs.Steps.{TreeStep, finish, transfers, visit, walk, steps}
+use Rattle.rack_spec.specs.Steps.{TreeStep, finish, transfers, around, walk, steps}
 use Rattle.rack_spec.specs.Held.{own, heldAfter, held}
 use Rattle.rack_spec.proofs.Boards.{label-lt}
 use Rattle.rack_spec.proofs.Begun.{fits, some-expands, over-alike}
@@ -22,7 +22,7 @@ use Rattle.rack_spec.proofs.Alive.{held-walk, over-none}
 
 module _ (g : Grid) (b : ℕ) where
   -- a visit has one step at least past its walk
-  pub visit-longer : (Y : List ℕ) (m : ℕ) (inner : List TreeStep) → length inner < length (visit Y m inner)
+  pub visit-longer : (Y : List ℕ) (m : ℕ) (inner : List TreeStep) → length inner < length (around Y m inner)
   visit-longer Y zero inner = rw length-append (omega arith)
   visit-longer Y (suc m) inner = let q = length-append inner (finish Y ∷ []) in omega arith
 

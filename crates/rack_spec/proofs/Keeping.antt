@@ -15,7 +15,7 @@ use Rattle.plan_spec.specs.Refusals.{planRefusal}
 use Rattle.plan_spec.specs.declared.types.Plan.{Plan}
 use Rattle.plan_spec.specs.Accepted.{Accepted}
 use Rattle.rack_spec.specs.Grids.{Grid, boards}
-use Rattle.rack_spec.specs.Steps.{TreeStep, finish, transfers, visit, walk}
+use Rattle.rack_spec.specs.Steps.{TreeStep, finish, transfers, around, walk}
 use Rattle.rack_spec.specs.Held.{own, held}
 use Rattle.rack_spec.specs.Counts.{span, walkCount}
 use Rattle.rack_spec.specs.Finding.{planGrid, summedIn, into, visited, heldWalk, Walking}
@@ -76,7 +76,7 @@ visit-leaf : (g : Grid) (d : ℕ) (Y : List ℕ) → length (visited g 0 d Y) �
 unfolding walk
 visit-leaf g d Y = refl
 
-visit-inner : (Y : List ℕ) (m : ℕ) (inner : List TreeStep) → length (visit Y (suc m) inner) ≡ length inner + 2
+visit-inner : (Y : List ℕ) (m : ℕ) (inner : List TreeStep) → length (around Y (suc m) inner) ≡ length inner + 2
 visit-inner Y m inner = let q = length-append inner (finish Y ∷ []) in omega arith
 
 visit-some : (g : Grid) (m d : ℕ) (Y : List ℕ) → (m ≡ 0 → ⊥) → length (visited g m d Y) ≡ length (walk g m (d + 1) (d ∷ Y)) + 2

@@ -6,12 +6,14 @@ pub mod Finishing
 pub mod Masks
 pub mod Moving
 pub mod Counting
+pub mod Divided
 pub mod Tallies
 pub mod Tallied
 pub mod Planned
 pub mod Found
 pub mod Leading
 pub mod Seeking
+pub mod Parents
 pub mod Keeping
 pub mod Refusing
 pub mod Told

@@ -12,7 +12,7 @@ use Rattle.cube_spec.specs.Boxes.{pick, position, product, sumN}
 use Rattle.cube_spec.specs.Tree as Tree
 use Rattle.cube_spec.specs.Tree.{choiceCells, sent, has, kept, lastOf, overSetsFrom}
 use Rattle.rack_spec.specs.Grids.{gridOf, Grid, Lawful, boards, box, cells, extent, label, lead, withLabel}
-use Rattle.rack_spec.specs.Steps.{TreeStep, each, finish, steps, sends, transfer, transfers, values, valuesOf, visit, walk}
+use Rattle.rack_spec.specs.Steps.{TreeStep, each, finish, steps, sends, transfer, transfers, values, valuesOf, around, walk}
 use Rattle.cube_spec.proofs.Sums.{by}
 use Rattle.cube_spec.proofs.Boxing.{product-cong}
 use Rattle.cube_spec.proofs.Products.{product-zero, product-sum}
@@ -111,7 +111,7 @@ module _ (g : Grid) (ok : Lawful g) where
       one b u true = values-sends Y b j (g .parts j - 1) u (let q = ok .some j (h .0) in omega arith)
       one b u false = unfold values in sym (mul-zero (g .parts j - 1))
 
-  values-visit : (Y : List ℕ) (m : ℕ) (inner : List TreeStep) → values (visit Y m inner) ≡ values inner
+  values-visit : (Y : List ℕ) (m : ℕ) (inner : List TreeStep) → values (around Y m inner) ≡ values inner
   unfolding values
   values-visit Y zero inner = values-append inner (finish Y ∷ []) ∙ add-zero (values inner)
   values-visit Y (suc m) inner = zero-add (values (inner ++ (finish Y ∷ []))) ∙ values-append inner (finish Y ∷ []) ∙ add-zero (values inner)

@@ -14,7 +14,7 @@ use Rattle.cube_spec.proofs.Sums.{by}
 use Rattle.cube_spec.proofs.Naturals.{clash, not-true, not-false}
 use Rattle.cube_spec.proofs.Sets.{Down, down-up, down-out, has-head, has-other}
 use Rattle.rack_spec.specs.Grids.{Grid, boards, lead}
-use Rattle.rack_spec.specs.Steps.{TreeStep, expand, transfer, finish, sends, transfers, visit, walk, steps}
+use Rattle.rack_spec.specs.Steps.{TreeStep, expand, transfer, finish, sends, transfers, around, walk, steps}
 use Rattle.rack_spec.specs.Held.{same, expandsIt, finishesIt, expansions, finishes}
 use Rattle.rack_spec.proofs.Every.{every-at, every-step}
 use Rattle.rack_spec.proofs.Finishing.{any, same-true, same-refl, finishes-append, finished-once, set-cong, down-set, finish-down}
@@ -57,7 +57,7 @@ quiet-transfers t g Y n h =
     each-none t n _ (λ b. by (lead g Y b) (λ e. rw e (each-none t (g .parts (lastOf Y) - 1) _ (λ l. rw (h _ b _)))) (λ e. rw e))
 
 module _ {t : TreeStep → Bool} {Z : List ℕ} (a : About t Z) (g : Grid) where
-  quiet-visit : (m : ℕ) (Y : List ℕ) (inner : List TreeStep) → (Z ≡ Y → ⊥) → fits t inner ≡ false → fits t (visit Y m inner) ≡ false
+  quiet-visit : (m : ℕ) (Y : List ℕ) (inner : List TreeStep) → (Z ≡ Y → ⊥) → fits t inner ≡ false → fits t (around Y m inner) ≡ false
   unfolding fits
   quiet-visit zero Y inner n e = joined-none t inner (finish Y ∷ []) e (rw (a (finish Y) n))
   quiet-visit (suc m) Y inner n e = rw (a (expand Y) n) (joined-none t inner (finish Y ∷ []) e (rw (a (finish Y) n)))
@@ -79,7 +79,7 @@ module _ {t : TreeStep → Bool} {Z : List ℕ} (a : About t Z) (g : Grid) where
       quiet-walk m d Y (λ j W l x q. clash (sym (has-head j W) ∙ ap (λ Z. has Z j) (sym q) ∙ down-out Z d j h l))
 
   -- the transfers and the visit of a child that sums out a place which Z keeps
-  quiet-child : (m d : ℕ) (Y : List ℕ) → has Z d ≡ false → fits t (transfers g (d ∷ Y) (boards g) ++ visit (d ∷ Y) m (walk g m (d + 1) (d ∷ Y))) ≡ false
+  quiet-child : (m d : ℕ) (Y : List ℕ) → has Z d ≡ false → fits t (transfers g (d ∷ Y) (boards g) ++ around (d ∷ Y) m (walk g m (d + 1) (d ∷ Y))) ≡ false
   quiet-child m d Y e =
       let n : has Z d ≡ has (d ∷ Y) d → ⊥ = λ q. clash (sym (has-head d Y) ∙ sym q ∙ e) in
       let o : Z ≡ d ∷ Y → ⊥ = λ q. n (ap (λ Z. has Z d) q) in
@@ -142,7 +142,7 @@ module _
     (opens : (Y : List ℕ) → next Y ≤ k → Down Y (next Y) → t (expand Y) ≡ true → A ≡ Y)
     (ends : (d : ℕ) (Y : List ℕ) → d < k → s (finish (d ∷ Y)) ≡ false)
     (from : (m d : ℕ) (Y : List ℕ) → d ≡ k → Down Y d → Ordered s t (walk g m d Y)) where
-  visit-ordered : (m d : ℕ) (Y : List ℕ) (inner : List TreeStep) → d < k → Down Y d → (A ≡ d ∷ Y → fits s inner ≡ false) → Ordered s t inner → Ordered s t (visit (d ∷ Y) m inner)
+  visit-ordered : (m d : ℕ) (Y : List ℕ) (inner : List TreeStep) → d < k → Down Y d → (A ≡ d ∷ Y → fits s inner ≡ false) → Ordered s t inner → Ordered s t (around (d ∷ Y) m inner)
   unfolding fits
   visit-ordered zero d Y inner l h q p = ordered-joined s t inner _ p (λ e. refl, tt) (λ e. rw (ends d Y l))
   visit-ordered (suc m) d Y inner l h q p =
@@ -224,7 +224,7 @@ module _ (g : Grid) (Z : List ℕ) (c : ℕ) (leaf : g .axes ≤ next Z → c �
   level-joined : (l k : List TreeStep) → Level l → Level k → Level (l ++ k)
   level-joined l k p q = rw (expansions-append Z l k, finishes-append Z l k, p, q) (omega arith)
 
-  level-visit : (m d : ℕ) (Y : List ℕ) (l : List TreeStep) → d + suc m ≡ g .axes → Level l → Level (visit (d ∷ Y) m l)
+  level-visit : (m d : ℕ) (Y : List ℕ) (l : List TreeStep) → d + suc m ≡ g .axes → Level l → Level (around (d ∷ Y) m l)
   unfolding expansions finishes
   level-visit zero d Y l e p =
       level-joined l (finish (d ∷ Y) ∷ []) p (by (same Z (d ∷ Y)) (λ z. let q = ap next (same-true Z (d ∷ Y) z) in rw (z, leaf (omega arith)) (omega arith)) (λ z. rw z (omega arith)))

@@ -15,7 +15,7 @@ use Rattle.cube_spec.specs.Choices.{keeps, fullMask, withoutMask}
 use Rattle.cube_spec.specs.Limits.{axisLimit}
 use Rattle.cube_spec.specs.Tree.{has, kept, lastOf, parentOf}
 use Rattle.cube_spec.proofs.Sums.{by}
-use Rattle.cube_spec.proofs.Naturals.{clash, sumN-cong}
+use Rattle.cube_spec.proofs.Naturals.{clash, sumN-but-one}
 use Rattle.cube_spec.proofs.Digits.{without-kept, without-summed}
 use Rattle.cube_spec.proofs.Products.{product-le, product-append, product-pos}
 use Rattle.cube_spec.proofs.Sets.{Down, down-up, down-out, has-head, has-other, kept-has, kept-out}
@@ -24,7 +24,7 @@ use Rattle.plan_spec.specs.declared.types.Plan.{Plan}
 use Rattle.plan_spec.specs.Accepted.{Accepted}
 use Rattle.plan_spec.proofs.PricingLaws.{few-axes}
 use Rattle.rack_spec.specs.Grids.{Grid, Lawful, setOf, summedBy, summed, maskOf, boards}
-use Rattle.rack_spec.specs.Steps.{TreeStep, expand, finish, transfers, visit, walk, steps}
+use Rattle.rack_spec.specs.Steps.{TreeStep, expand, finish, transfers, around, walk, steps}
 use Rattle.rack_spec.specs.Counts.{span, labellings, walkCount}
 use Rattle.rack_spec.specs.Finding.{planGrid, summedIn, leads, found, Walking, Sending, Forming}
 use Rattle.rack_spec.specs.Answers.{Told, done, expands, finishes, telling, tellingOr, toldAt}
@@ -49,27 +49,11 @@ set-below f (suc n) d h =
 
 -- ---- a mask with one axis more summed out
 
-one-less : (n k v : ℕ) (f h : ℕ → ℕ) → k < n → f k ≡ h k + v → ((i : ℕ) → i < n → (i ≡ k → ⊥) → f i ≡ h i) → sumN n f ≡ sumN n h + v
-unfolding sumN
-one-less zero k v f h l e same = absurd (omega arith)
-one-less (suc n) k v f h l e same =
-    by (eqb n k)
-    (λ t.
-    let q = eqb-true n k t in
-    let a = sumN-cong n (λ i r. same i (omega arith) (λ z. omega arith)) in
-    let b : f n ≡ h n + v = (rw q e) in
-    omega arith)
-    (λ t.
-    let ne = eqb-false n k t in
-    let a = one-less n k v f h (omega (arith, ne)) e (λ i r. same i (omega arith)) in
-    let b = same n (omega arith) ne in
-    omega arith)
-
 module _ (g : Grid) (ok : Lawful g) (Y : List ℕ) (d : ℕ) (h : d < g .axes) (out : has Y d ≡ false) where
-  mask-less : maskOf g Y ≡ maskOf g (d ∷ Y) + 2 ^ g .order d
+  pub mask-less : maskOf g Y ≡ maskOf g (d ∷ Y) + 2 ^ g .order d
   unfolding maskOf
   mask-less =
-      one-less (g .axes) (g .order d) (2 ^ g .order d) (λ a. pick (has Y (g .rank a)) 0 (2 ^ a)) (λ a. pick (has (d ∷ Y) (g .rank a)) 0 (2 ^ a)) (ok .order-lt d h)
+      sumN-but-one (g .axes) (g .order d) (2 ^ g .order d) (λ a. pick (has Y (g .rank a)) 0 (2 ^ a)) (λ a. pick (has (d ∷ Y) (g .rank a)) 0 (2 ^ a)) (ok .order-lt d h)
       (let r = ok .rank-order d h in rw (r, out, has-head d Y) (sym (zero-add _)))
       (λ a l ne. ap (λ t. pick t 0 (2 ^ a)) (sym (has-other d (g .rank a) Y (λ z. ne (sym (ok .order-rank a l) ∙ ap (g .order) z)))))
 
@@ -208,7 +192,7 @@ module _ {q : Plan} (ok : Accepted q) {mask d n : ℕ} (w : Walking q mask d n) 
   told-walk at = toldAt (planGrid q) (walk (planGrid q) (q .axes - d) d (summedIn q mask)) at
 
   abbrev told-visit : ℕ → Told
-  told-visit at = toldAt (planGrid q) (visit (summedIn q mask) (q .axes - d) (walk (planGrid q) (q .axes - d) d (summedIn q mask))) at
+  told-visit at = toldAt (planGrid q) (around (summedIn q mask) (q .axes - d) (walk (planGrid q) (q .axes - d) d (summedIn q mask))) at
 
   -- ---- no child more
 
@@ -220,7 +204,7 @@ module _ {q : Plan} (ok : Accepted q) {mask d n : ℕ} (w : Walking q mask d n) 
     unfolding walk toldAt
     walk-done at = rw none-left refl
 
-    one-left : visit (summedIn q mask) (q .axes - d) (walk (planGrid q) (q .axes - d) d (summedIn q mask)) ≡ finish (summedIn q mask) ∷ []
+    one-left : around (summedIn q mask) (q .axes - d) (walk (planGrid q) (q .axes - d) d (summedIn q mask)) ≡ finish (summedIn q mask) ∷ []
     unfolding walk
     one-left = rw none-left refl
 
@@ -238,7 +222,7 @@ module _ {q : Plan} (ok : Accepted q) {mask d n : ℕ} (w : Walking q mask d n) 
     sent = transfers (planGrid q) (d ∷ summedIn q mask) (boards (planGrid q))
 
     abbrev visited : List TreeStep
-    visited = visit (d ∷ summedIn q mask) (q .axes - (d + 1)) (walk (planGrid q) (q .axes - (d + 1)) (d + 1) (d ∷ summedIn q mask))
+    visited = around (d ∷ summedIn q mask) (q .axes - (d + 1)) (walk (planGrid q) (q .axes - (d + 1)) (d + 1) (d ∷ summedIn q mask))
 
     parted : walk (planGrid q) (q .axes - d) d (summedIn q mask) ≡ siblings ++ (sent ++ visited)
     unfolding walk
@@ -268,9 +252,9 @@ module _ {q : Plan} (ok : Accepted q) {mask d n : ℕ} (w : Walking q mask d n) 
               ap (λ Z. telling (planGrid q) (found (planGrid q) Z (at - later))) (child-set ok w h)
               ∙ sym (behind ∙ told-inside (planGrid q) sent visited (at - later) count (as-many o) r ∙ (unfold toldAt in ap (tellingOr (planGrid q)) f))
 
-          pub walk-visits : count ≤ at - later → toldAt (planGrid q) (visit (summedIn q (child ok w h)) (q .axes - (d + 1)) (walk (planGrid q) (q .axes - (d + 1)) (d + 1) (summedIn q (child ok w h)))) (at - later - count) ≡ told-walk at
+          pub walk-visits : count ≤ at - later → toldAt (planGrid q) (around (summedIn q (child ok w h)) (q .axes - (d + 1)) (walk (planGrid q) (q .axes - (d + 1)) (d + 1) (summedIn q (child ok w h)))) (at - later - count) ≡ told-walk at
           walk-visits r =
-              ap (λ Z. toldAt (planGrid q) (visit Z (q .axes - (d + 1)) (walk (planGrid q) (q .axes - (d + 1)) (d + 1) Z)) (at - later - count)) (child-set ok w h)
+              ap (λ Z. toldAt (planGrid q) (around Z (q .axes - (d + 1)) (walk (planGrid q) (q .axes - (d + 1)) (d + 1) Z)) (at - later - count)) (child-set ok w h)
               ∙ sym (behind ∙ told-past (planGrid q) sent visited (at - later) count (as-many o) r)
 
     -- ---- the visit: the expansion, the walk, the finish
@@ -278,8 +262,8 @@ module _ {q : Plan} (ok : Accepted q) {mask d n : ℕ} (w : Walking q mask d n) 
     abbrev inner : List TreeStep
     inner = walk (planGrid q) (q .axes - d) d (summedIn q mask)
 
-    opened : visit (summedIn q mask) (q .axes - d) inner ≡ (expand (summedIn q mask) ∷ []) ++ (inner ++ (finish (summedIn q mask) ∷ []))
-    opened = ap (λ m. visit (summedIn q mask) m inner) (fuel ok w h)
+    opened : around (summedIn q mask) (q .axes - d) inner ≡ (expand (summedIn q mask) ∷ []) ++ (inner ++ (finish (summedIn q mask) ∷ []))
+    opened = ap (λ m. around (summedIn q mask) m inner) (fuel ok w h)
 
     pub visit-first : {at : ℕ} → at ≡ 0 → expands mask ≡ told-visit at
     visit-first {at} e =

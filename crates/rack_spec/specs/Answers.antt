@@ -55,6 +55,14 @@ tellingOr g (some m) = telling g m
 unfoldable pub toldAt : Grid → List TreeStep → ℕ → Told
 toldAt g l at = tellingOr g (getElem? l at)
 
+-- the number of values that an answer reports
+abbrev pub reportedBy : Told → ℕ
+reportedBy (expands c) = 0
+reportedBy (transfers s r c n) = n
+reportedBy (finishes c) = 0
+reportedBy done = 0
+reportedBy (refused n) = 0
+
 -- ---- the checks that concern positions and boards
 
 -- 12. "The position is over T, .. or a named board is not below 2^p."

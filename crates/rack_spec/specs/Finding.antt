@@ -51,7 +51,7 @@ abbrev pub into : Grid → ℕ → ℕ → List ℕ → ℕ → ℕ
 into g m d Y at = at - length (walk g m (d + 1) Y) - length (transfers g (d ∷ Y) (boards g))
 
 abbrev pub visited : Grid → ℕ → ℕ → List ℕ → List TreeStep
-visited g m d Y = visit (d ∷ Y) m (walk g m (d + 1) (d ∷ Y))
+visited g m d Y = visit (walk g m (d + 1)) m (d ∷ Y)
 
 -- what board b holds of the choices in a walk when `at` of its steps are taken: of the right siblings, of the child, and of the choices below it
 unfoldable pub heldWalk : Grid → ℕ → ℕ → ℕ → List ℕ → ℕ → ℕ

@@ -1,4 +1,5 @@
 pub mod Grids
+pub mod Pointed
 pub mod Steps
 pub mod Held
 pub mod Counts

@@ -28,15 +28,20 @@ sends g Y b n = each n (λ l. let s = withLabel g b (lastOf Y) (suc l) in transf
 unfoldable pub transfers : Grid → List ℕ → ℕ → List TreeStep
 transfers g Y n = each n (λ b. pick (lead g Y b) (sends g Y b (g .parts (lastOf Y) - 1)) [])
 
--- The visit of a choice that has m children, given the walk over these: "expanded if it has children of its own, then finished", "finished after all its children"
-abbrev pub visit : List ℕ → ℕ → List TreeStep → List TreeStep
-visit Y zero inner = inner ++ (finish Y ∷ [])
-visit Y (suc m) inner = (expand Y ∷ []) ++ (inner ++ (finish Y ∷ []))
+-- what stands around the walk over the m children of Y: "expanded if it has children of its own, then finished", "finished after all its children"
+abbrev pub around : List ℕ → ℕ → List TreeStep → List TreeStep
+around Y zero inner = inner ++ (finish Y ∷ [])
+around Y (suc m) inner = (expand Y ∷ []) ++ (inner ++ (finish Y ∷ []))
 
--- The walk over the m children d, d + 1, .. of the choice Y: "its children are taken from right to left. Each child is first made final by transfers"
+-- "visiting a choice calls the walk over its children": the visit of the choice Y that has m children. A definition may call another only on a smaller part, so the
+-- walk, which calls the visit of each child, hands itself over the axes left on to it.
+abbrev pub visit : (List ℕ → List TreeStep) → ℕ → List ℕ → List TreeStep
+visit walkOver m Y = around Y m (walkOver Y)
+
+-- The walk over the m children d, d + 1, .. of the choice Y: "its children are taken from right to left. Each child is first made final by transfers", then visited
 unfoldable pub walk : Grid → ℕ → ℕ → List ℕ → List TreeStep
 walk g zero d Y = []
-walk g (suc m) d Y = walk g m (d + 1) Y ++ (transfers g (d ∷ Y) (boards g) ++ visit (d ∷ Y) m (walk g m (d + 1) (d ∷ Y)))
+walk g (suc m) d Y = walk g m (d + 1) Y ++ (transfers g (d ∷ Y) (boards g) ++ visit (walk g m (d + 1)) m (d ∷ Y))
 
 -- "It opens by expanding the root, which is never finished."
 unfoldable pub steps : Grid → List TreeStep

@@ -13,7 +13,7 @@ use Rattle.cube_spec.specs.Tree.{lastOf}
 use Rattle.cube_spec.proofs.Sums.{by}
 use Rattle.plan_spec.specs.Plans.{PlanLists}
 use Rattle.rack_spec.specs.Grids.{Grid, gridOf, maskOf, boards, withLabel, lead, cells}
-use Rattle.rack_spec.specs.Steps.{TreeStep, expand, transfer, finish, each, sends, transfers, visit, walk, steps}
+use Rattle.rack_spec.specs.Steps.{TreeStep, expand, transfer, finish, each, sends, transfers, around, walk, steps}
 use Rattle.run_spec.proofs.Positions.{take-next}
 use Rattle.report_spec.specs.Printed.{groupLine, groupLines}
 
@@ -55,7 +55,7 @@ module _ (a : PlanLists) (array : ℕ → ℤ) where
   unfolding count groupLines
   count-finish Y = refl
 
-  visit-count : (Y : List ℕ) (m : ℕ) (inner : List TreeStep) → count (visit Y m inner) ≡ count inner + 1
+  visit-count : (Y : List ℕ) (m : ℕ) (inner : List TreeStep) → count (around Y m inner) ≡ count inner + 1
   visit-count Y zero inner = let f = count-finish Y in let c = count-append inner (finish Y ∷ []) in omega arith
   visit-count Y (suc m) inner =
       let f = count-finish Y in
@@ -71,8 +71,8 @@ module _ (a : PlanLists) (array : ℕ → ℤ) where
       let k = walk-count g m (d + 1) (d ∷ Y) in
       let v = visit-count (d ∷ Y) m (walk g m (d + 1) (d ∷ Y)) in
       let t : count (transfers g (d ∷ Y) (boards g)) ≡ 0 = (unfold count in ap length (transfers-none g (d ∷ Y) (boards g))) in
-      let x = count-append (transfers g (d ∷ Y) (boards g)) (visit (d ∷ Y) m (walk g m (d + 1) (d ∷ Y))) in
-      let y = count-append (walk g m (d + 1) Y) (transfers g (d ∷ Y) (boards g) ++ visit (d ∷ Y) m (walk g m (d + 1) (d ∷ Y))) in
+      let x = count-append (transfers g (d ∷ Y) (boards g)) (around (d ∷ Y) m (walk g m (d + 1) (d ∷ Y))) in
+      let y = count-append (walk g m (d + 1) Y) (transfers g (d ∷ Y) (boards g) ++ around (d ∷ Y) m (walk g m (d + 1) (d ∷ Y))) in
       omega arith
 
   -- one group for each choice but the full one

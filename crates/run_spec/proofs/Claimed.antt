@@ -14,11 +14,11 @@ use Rattle.plan_spec.specs.Plans.{Sound, moved, boardCount, stepCount, listsOf}
 use Rattle.plan_spec.specs.declared.types.Plan.{Plan}
 use Rattle.rack_spec.specs.Grids.{Grid, gridOf}
 use Rattle.rack_spec.specs.Steps.{TreeStep, expand, transfer, finish, steps}
-use Rattle.rack_spec.specs.Answers.{done, refused, telling}
+use Rattle.rack_spec.specs.Answers.{done, refused, telling, reportedBy}
 use Rattle.rack_spec.specs.Held.{held}
 use Rattle.rack_spec.proofs.Counting.{steps-length}
 use Rattle.rack_spec.proofs.Claim as Claim
-use Rattle.rack_spec.proofs.Claim.{reportedBy, answers, moves}
+use Rattle.rack_spec.proofs.Claim.{answers, moves}
 use Rattle.run_spec.specs.Entries.{Outcome, taken, stepOr, stepRefusal, stepping}
 
 -- what a call is lent

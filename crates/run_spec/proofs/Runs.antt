@@ -14,7 +14,7 @@ use Rattle.cube_spec.proofs.Sums.{by, put-same, put-other, sum-cong, sum-append
 use Rattle.cube_spec.proofs.Naturals.{both}
 use Rattle.cube_spec.proofs.Sets.{Down, down-up, down-out, has-head}
 use Rattle.rack_spec.specs.Grids.{Grid, Lawful, boards, label, withLabel, lead, extent, box, cells, global, boardOf, regionOf, cellAt}
-use Rattle.rack_spec.specs.Steps.{TreeStep, expand, transfer, finish, each, sends, transfers, visit, walk, steps}
+use Rattle.rack_spec.specs.Steps.{TreeStep, expand, transfer, finish, each, sends, transfers, around, walk, steps}
 use Rattle.rack_spec.proofs.Boards as Boards
 use Rattle.rack_spec.proofs.Moving.{lead-each}
 use Rattle.cell_spec.specs.Wrapped.{wrapped}
@@ -314,7 +314,7 @@ module _ (g : Grid) (array : ℕ → ℤ) (T : List ℕ → (ℕ → ℕ) → �
     -- ---- the walk
 
     -- (a) a walk from axis d on writes only regions from d on
-    visit-keeps : (m j : ℕ) (Y : List ℕ) (inner : List TreeStep) (work : ℕ → ℤ) (i : ℕ) → regionOf g i ≤ j → ((w : ℕ → ℤ) → run g array inner w i ≡ w i) → run g array (visit (j ∷ Y) m inner) work i ≡ work i
+    visit-keeps : (m j : ℕ) (Y : List ℕ) (inner : List TreeStep) (work : ℕ → ℤ) (i : ℕ) → regionOf g i ≤ j → ((w : ℕ → ℤ) → run g array inner w i ≡ w i) → run g array (around (j ∷ Y) m inner) work i ≡ work i
     unfolding run after
     visit-keeps zero j Y inner work i h p = append-keeps inner (finish (j ∷ Y) ∷ []) work i p (λ w. refl)
     visit-keeps (suc m) j Y inner work i h p =
@@ -336,7 +336,7 @@ module _ (g : Grid) (array : ℕ → ℤ) (T : List ℕ → (ℕ → ℕ) → �
     totals-kept Y j work work′ r p f b x h t w = p (cellAt g (j ∷ Y) b x) (Boards.cell-region g ok Y b j x h r w) ∙ f b x h t w
 
     -- (b) at each finish the totals stand
-    visit-exact : (m j : ℕ) (Y : List ℕ) (inner : List TreeStep) (work : ℕ → ℤ) → j + 1 + m ≡ g .axes → Down Y j → ((w : ℕ → ℤ) (i : ℕ) → regionOf g i ≤ j → run g array inner w i ≡ w i) → ((w : ℕ → ℤ) → ((k : ℕ) → j < k → k < g .axes → Formed (j ∷ Y) k w) → Exact inner w) → Final g T (j ∷ Y) work → Exact (visit (j ∷ Y) m inner) work
+    visit-exact : (m j : ℕ) (Y : List ℕ) (inner : List TreeStep) (work : ℕ → ℤ) → j + 1 + m ≡ g .axes → Down Y j → ((w : ℕ → ℤ) (i : ℕ) → regionOf g i ≤ j → run g array inner w i ≡ w i) → ((w : ℕ → ℤ) → ((k : ℕ) → j < k → k < g .axes → Formed (j ∷ Y) k w) → Exact inner w) → Final g T (j ∷ Y) work → Exact (around (j ∷ Y) m inner) work
     visit-exact zero j Y inner work e q keep exact f =
         exact-append inner (finish (j ∷ Y) ∷ []) work (exact work (λ k l r. absurd (omega arith))) (totals-kept Y j work _ (omega arith) (λ i h. keep work i (omega arith)) f, tt)
     visit-exact (suc m) j Y inner work e q keep exact f =

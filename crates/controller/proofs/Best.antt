@@ -1,0 +1,105 @@
+-- Demand 3 for the controller: whatever a call of `campaign_plan` leaves in the result with answer 0 is a lawful plan, and no way with any division over the same boards
+-- moves fewer values or adds fewer cells than that plan, by what the caller learns: the function's own contract, as the check reads it.
+use Prim.Native.Nat.{ℕ, _+_, _/_, _%_, _≤_, _<_}
+use mathlib.Core.Path.{_≡_, sym, _∙_, refl, ap, ap₂, subst}
+use mathlib.Core.List.{List, _++_}
+use native.Mathlib.Omega.{arith}
+use borrow.Author.Tests.{eqb-true, eqb-false}
+use lib.Dec.{eqb}
+use lib.ListN.{length, getD, take, drop}
+use lib.Seq.{take-append-seam, drop-append-seam}
+use denote.Ref.{now}
+use contract.Lifetimes.{Lfts}
+use borrow.Fn.World.{ArgsD, ResD}
+use denote.Triple.Clauses.{AtExit}
+use Rattle.cube_spec.specs.Boxes.{table}
+use Rattle.cube_spec.specs.Choices.{fullMask, keeps}
+use Rattle.cube_spec.specs.Ways.{Way, Division, movedBy, addedBy}
+use Rattle.cube_spec.proofs.Sums.{by}
+use Rattle.plan_spec.specs.Plans.{PlanLists, Sound, find, moved, added}
+use Rattle.plan_spec.specs.Accepted.{PlanningAccepted}
+use Rattle.plan_spec.specs.Rule.{order, orderedExponents, exponents, planOf}
+use Rattle.plan_spec.specs.Trees.{lastSummed, treeAxis}
+use Rattle.plan_spec.specs.Refusals.{planningRefusal}
+use Rattle.plan_spec.proofs.Accepting.{planning-accepted}
+use Rattle.plan_spec.proofs.Places.{order-length}
+use Rattle.plan_spec.proofs.Demand.{demand, plan-sound}
+use Rattle.rack_spec.specs.Pointed.{Pointed}
+use Rattle.rack_spec.proofs.Divided.{pointed-division}
+use Rattle.controller.specs.Bytes.{pairs, controllerRefusal, writtenOr, written, planIn}
+use Rattle.controller.proofs.Pairing.{refuses-odd, refuses-planning}
+use Rattle.controller.proofs.campaign_plan.{signature, ended}
+use Rattle.controller.proofs.campaign_plan.Reads as reads
+
+-- what is said of the plan a for the lengths ds and p
+pub record BestPlan (ds : List ℕ) (p : ℕ) (a : PlanLists) : Type 0 where
+  -- it is a lawful plan of these lengths over 2^p boards
+  pub lengths : a .lengths ≡ ds
+  pub boards : a .p ≡ p
+  pub sound : Sound a
+  -- no way with any division moves less or adds less; the divisions are the exponents that sum to p and give each board a point
+  pub moved-least : (e : Division ds p) (w : Way (length ds)) → moved a ≤ movedBy ds e w
+  pub pointed-least : (c : Pointed ds p) (w : Way (length ds)) → moved a ≤ movedBy ds (pointed-division c) w
+  pub added-least : (w : Way (length ds)) → added a ≤ addedBy ds w
+  -- its exponents are a division and its tree is a way, and they move and add just that
+  pub division : Division ds p
+  pub way : Way (length ds)
+  pub exponents : division .exponents ≡ a .exponents
+  pub axes : (mask : ℕ) → mask < fullMask (length ds) → way .axis mask ≡ lastSummed (keeps mask) 0 (a .order)
+  pub moves : movedBy ds division way ≡ moved a
+  pub adds : addedBy ds way ≡ added a
+
+planned : (ds : List ℕ) (p : ℕ) → PlanningAccepted ds p → BestPlan ds p (planOf ds p)
+planned ds p ok =
+    let least = demand ds p (ok .lengths .some) (ok .enough) in
+    record {
+      lengths = unfold planOf in refl;
+      boards = unfold planOf in refl;
+      sound = plan-sound ds p (ok .lengths .some) (ok .enough);
+      moved-least = least .moves-least;
+      pointed-least = λ c w. least .moves-least (pointed-division c) w;
+      added-least = least .adds-least;
+      division = least .division;
+      way = least .way;
+      exponents = least .exponents ∙ (unfold planOf in refl);
+      axes = λ mask h. least .axes mask h ∙ (unfold planOf treeAxis in refl);
+      moves = least .moves;
+      adds = least .adds;
+    }
+
+-- the bytes hold the planner's plan
+read-back : (ds : List ℕ) (p : ℕ) → planIn ds p (order ds ++ orderedExponents ds p) ≡ planOf ds p
+unfolding planIn planOf exponents
+read-back ds p =
+    let n = order-length ds in
+    let bytes = order ds ++ orderedExponents ds p in
+    let o : take (length ds) bytes ≡ order ds = ap (λ m. take m bytes) (sym n) ∙ take-append-seam (order ds) (orderedExponents ds p) in
+    let k : drop (length ds) bytes ≡ orderedExponents ds p = ap (λ m. drop m bytes) (sym n) ∙ drop-append-seam (order ds) (orderedExponents ds p) in
+    ap₂ (λ (x y : List ℕ). record { lengths = ds; order = x; exponents = table (length ds) (λ a. getD y (find a x) 0); p = p }) o k
+
+-- no refusal: none of planning's
+granted : (bytes : List ℕ) (p m : ℕ) → controllerRefusal bytes p m ≡ 0 → planningRefusal (pairs bytes) p ≡ 0
+granted bytes p m z =
+    by (eqb (length bytes % 2) 1)
+    (λ t. absurd (let q = refuses-odd bytes p m (eqb-true _ _ t) in omega arith))
+    (λ t.
+    let o = eqb-false (length bytes % 2) 1 t in
+    let e : length bytes ≡ length bytes / 2 + length bytes / 2 = omega (arith, o) in
+    by (eqb (planningRefusal (pairs bytes) p) 0)
+    (λ u. eqb-true _ _ u)
+    (λ u. let ne = eqb-false (planningRefusal (pairs bytes) p) 0 u in absurd (ne (refuses-planning bytes p m (length bytes / 2) e (planningRefusal (pairs bytes) p) refl ne ∙ z))))
+
+written-plan : (bytes : List ℕ) (p : ℕ) (result : List ℕ) → controllerRefusal bytes p (length result) ≡ 0 → written bytes p result ≡ order (pairs bytes) ++ orderedExponents (pairs bytes) p
+unfolding written writtenOr
+written-plan bytes p result z = ap (λ k. writtenOr k (pairs bytes) p result) z
+
+-- FOR EVERY CALL WITH ANSWER 0
+pub campaign-best : (κs : Lfts 2) (a : ArgsD signature κs) (r : ResD signature κs) (s : AtExit ended κs) → reads.Learnt κs a r s → r ≡ 0
+    → BestPlan (pairs (now (a .0))) (a .1 .0) (planIn (pairs (now (a .0))) (a .1 .0) (now (s .1 .1 .0)))
+campaign-best κs a r s h e =
+    let ds = pairs (now (a .0)) in
+    let p = a .1 .0 in
+    let z : controllerRefusal (now (a .0)) p (length (now (a .1 .1 .0))) ≡ 0 = sym (h .0) ∙ e in
+    let w : now (s .1 .1 .0) ≡ order ds ++ orderedExponents ds p = h .1 ∙ written-plan (now (a .0)) p (now (a .1 .1 .0)) z in
+    let q : planIn ds p (now (s .1 .1 .0)) ≡ planOf ds p = ap (planIn ds p) w ∙ read-back ds p in
+    subst (BestPlan ds p) (sym q) (planned ds p (planning-accepted ds p (granted (now (a .0)) p (length (now (a .1 .1 .0))) z)))

@@ -1,0 +1,56 @@
+-- Calls of step in a list, and what demand 3 says of each of them.
+use Prim.Native.Nat.{ℕ, _+_, _≤_, _<_}
+use mathlib.Core.Path.{_≡_}
+use mathlib.Core.List.{List, [], _∷_}
+use lib.ListN.{length}
+use lib.IntN.{ℤ}
+use Rattle.cube_spec.specs.Checks.{Reply, gives}
+use Rattle.plan_spec.specs.Plans.{stepCount, listsOf}
+use Rattle.plan_spec.specs.declared.types.Plan.{Plan}
+use Rattle.rack_spec.specs.Finding.{planGrid, summedIn}
+use Rattle.rack_spec.specs.Steps.{steps}
+use Rattle.rack_spec.specs.Grids as Grids
+use Rattle.rack_spec.specs.Answers.{Told, expands, transfers, finishes, done, refused, toldAt, reportedBy}
+use Rattle.run_spec.specs.Entries.{stepRefusal}
+
+-- one call: the array and the work area that it is lent, the position before it, its answer, and the work area and the position after it
+pub record Call : Type 0 where
+  pub array : List ℤ
+  pub work : List ℤ
+  pub from : ℕ
+  pub answer : Told
+  pub left : List ℤ
+  pub to : ℕ
+
+-- A list of calls has the newest first. The position that it reached, and the values that its answers report.
+unfoldable pub reached : List Call → ℕ
+reached [] = 0
+reached (c ∷ l) = c .to
+
+unfoldable pub reported : List Call → ℕ
+reported [] = 0
+reported (c ∷ l) = reportedBy (c .answer) + reported l
+
+-- "any other takes exactly the next step": it answers the step of the list at its position, which then is one more
+abbrev pub Next : Plan → ℕ → ℕ → Told → Type 0
+Next q at at′ t = (at < stepCount (listsOf q)) × (t ≡ toldAt (planGrid q) (steps (planGrid q)) at) × (at′ ≡ at + 1)
+
+-- "A refused call, and one that answers done, moves nothing and leaves the position; any other takes exactly the next step, and done is answered at T only": from position
+-- at over an array of n points and a work area, to another work area and position. "That number is the count of the sender's cells of the child": so of a transfer.
+abbrev pub AnsweredWith : Plan → ℕ → List ℤ → ℕ → List ℤ → ℕ → Told → Type 0
+AnsweredWith q n work at work′ at′ (refused k) = (k ≡ stepRefusal q n (length work) at) × (k ≡ 0 → ⊥) × (work′ ≡ work) × (at′ ≡ at)
+AnsweredWith q n work at work′ at′ done = (stepRefusal q n (length work) at ≡ 0) × (at ≡ stepCount (listsOf q)) × (work′ ≡ work) × (at′ ≡ at)
+AnsweredWith q n work at work′ at′ (expands m) = (stepRefusal q n (length work) at ≡ 0) × Next q at at′ (expands m)
+AnsweredWith q n work at work′ at′ (finishes m) = (stepRefusal q n (length work) at ≡ 0) × Next q at at′ (finishes m)
+AnsweredWith q n work at work′ at′ (transfers s r m v) = (stepRefusal q n (length work) at ≡ 0) × Next q at at′ (transfers s r m v) × (v ≡ Grids.cells (planGrid q) (summedIn q m) s)
+
+abbrev pub Answered : Plan → Call → Type 0
+Answered q c = AnsweredWith q (length (c .array)) (c .work) (c .from) (c .left) (c .to) (c .answer)
+
+-- two replies of held that both give a number, the first at most the second
+pub record Holds (first second : Reply ℕ) : Type 0 where
+  pub here : ℕ
+  pub there : ℕ
+  pub gives-here : first ≡ gives here
+  pub gives-there : second ≡ gives there
+  pub at-most : here ≤ there
