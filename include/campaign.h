@@ -1,8 +1,27 @@
 /*
- * Planning a test campaign for a rack of 2^p boards.
+ * Campaign totals: the totals of a test campaign over every choice of its axes, formed by a rack
+ * of 2^p boards with the fewest values moved between them and the fewest cells added up.
  *
- * Link with libcontroller.a (rt staticlib controller). The function allocates nothing, keeps no
- * state between calls, calls nothing back, and may be called from any thread.
+ * Link with libcampaign.a (pkg-config --cflags --libs campaign); campaign(3) is its manual page.
+ *
+ * The library allocates nothing, keeps no state between calls, calls nothing back, reads and
+ * writes nothing but what it is lent, and may be called from any thread. Every function returns
+ * CAMPAIGN_OK or the first refusal of the list below that is due, and on a refusal not one byte
+ * of what it was lent has changed. That, and what each function writes, is proved for every input;
+ * the inline functions below do nothing but hand structures over.
+ *
+ * What a caller owes: each pointer is not null, also where its length is 0, is aligned for its
+ * type and valid for its length, and what a function writes overlaps nothing else that the same
+ * call is lent.
+ *
+ * A run:
+ *
+ *     campaign_plan_make(&plan, &prices, lengths, axes, p)    plan, once
+ *     work = calloc(campaign_work_cells(&plan, &prices), sizeof *work)
+ *     position = 0
+ *     campaign_plan_step(&plan, points, n, work, cells, &position, &step)     until step.kind is
+ *                                                                            CAMPAIGN_DONE
+ *     campaign_plan_gather(&plan, work, cells, position, result, m)   where it is CAMPAIGN_FINISH
  */
 #ifndef CAMPAIGN_H
 #define CAMPAIGN_H
@@ -14,39 +33,355 @@
 extern "C" {
 #endif
 
-/* What campaign_plan returns: CAMPAIGN_PLANNED, or why there is no plan. */
-#define CAMPAIGN_PLANNED 0
-/* there are no axes, more than 8, or an odd number of length bytes */
-#define CAMPAIGN_BAD_AXES 3
-/* an axis length is 0 */
-#define CAMPAIGN_BAD_LENGTH 4
-/* the product of the lengths exceeds 16,777,216 */
-#define CAMPAIGN_TOO_MANY_POINTS 5
-/* p is over 10 */
-#define CAMPAIGN_TOO_MANY_BOARDS 6
-/* p exceeds the sum of floor(log2 length) over the axes */
-#define CAMPAIGN_NO_ROOM 7
-/* the result is not 2 bytes long for each axis */
-#define CAMPAIGN_BAD_RESULT 13
+/* ---- limits ------------------------------------------------------------------------------ */
+
+#define CAMPAIGN_AXES 8             /* the most axes; slots past a plan's last axis are 0 */
+#define CAMPAIGN_LONGEST 65535      /* the longest axis */
+#define CAMPAIGN_POINTS 16777216    /* the most points */
+#define CAMPAIGN_HIGHEST_P 10       /* the highest p: a rack has at most 1,024 boards */
+#define CAMPAIGN_TAPE_BYTES 65536   /* the longest tape */
+
+/* ---- refusals, in the order in which they are judged ------------------------------------- */
+
+#define CAMPAIGN_OK 0               /* not refused */
+#define CAMPAIGN_PLANNED 0          /* the same, as campaign_plan returns it */
+#define CAMPAIGN_LONG_TAPE 1        /* the tape is over 65,536 bytes */
+#define CAMPAIGN_BAD_TAPE 2         /* the tape departs from its form */
+#define CAMPAIGN_BAD_AXES 3         /* no axes or more than 8; an odd number of length bytes */
+#define CAMPAIGN_BAD_LENGTH 4       /* an axis length is 0 or over 65,535 */
+#define CAMPAIGN_TOO_MANY_POINTS 5  /* the product of the lengths is over 16,777,216 */
+#define CAMPAIGN_TOO_MANY_BOARDS 6  /* p is over 10 */
+#define CAMPAIGN_NO_ROOM 7          /* planning: p is over the sum of floor(log2 length) */
+#define CAMPAIGN_BAD_ORDER 8        /* the order does not name each axis once, or a slot past the
+                                       last axis is not 0 */
+#define CAMPAIGN_BAD_EXPONENTS 9    /* an axis has more portions than it is long, or the exponents
+                                       do not sum to p */
+#define CAMPAIGN_BAD_ARRAY 10       /* the number of points is not the product of the lengths */
+#define CAMPAIGN_SMALL_AREA 11      /* the work area is under 2^p shares; or campaign_fill's slice
+                                       is too short for the tape's points */
+#define CAMPAIGN_BAD_POSITION 12    /* the position is past the last step; or view or gather does
+                                       not follow a finish; or there is no such board */
+#define CAMPAIGN_BAD_RESULT 13      /* a lent result has the wrong length */
+
+/* ---- types ------------------------------------------------------------------------------- */
 
 /*
- * Plans a campaign: the order of its axes, and into how many portions each is cut, so that the
- * fewest values are moved between boards and the fewest cells are added up.
+ * A plan. Lengths and exponents are by axis number; order[i] is the axis at place i of the plan.
+ * An axis with exponent k is cut in 2^k portions, and the exponents sum to p. A caller may fill
+ * one in by hand, and any lawful plan can be priced and run: set it to {0} first.
+ */
+struct campaign_plan {
+    uint8_t axes;
+    uint8_t p;
+    uint8_t order[CAMPAIGN_AXES];
+    uint8_t exponents[CAMPAIGN_AXES];
+    uint32_t lengths[CAMPAIGN_AXES];
+};
+
+/* What a plan costs. */
+struct campaign_prices {
+    uint64_t moved;  /* values moved between boards */
+    uint64_t added;  /* cells added up */
+    uint64_t share;  /* A: the cells of one board's share of the work area */
+};
+
+enum campaign_kind {
+    CAMPAIGN_EXPAND = 1,   /* a choice's cells are summed into those of all its children */
+    CAMPAIGN_TRANSFER = 2, /* one board's cells of a choice are added to those of a lead */
+    CAMPAIGN_FINISH = 3,   /* a choice is final and may be viewed and gathered */
+    CAMPAIGN_DONE = 4      /* all steps are taken */
+};
+
+/* What a step tells. A choice is the sum of 2^d over the axes d that it keeps. */
+struct campaign_step {
+    uint64_t kind;      /* an enum campaign_kind */
+    uint64_t sender;    /* the two boards of a transfer, else 0 */
+    uint64_t receiver;
+    uint64_t choice;    /* 0 with CAMPAIGN_DONE */
+    uint64_t values;    /* how many values a transfer moves, else 0 */
+};
+
+/* Where a board's cells of a finished choice stand in the work area: work[start] and on. */
+struct campaign_part {
+    uint64_t start;
+    uint64_t cells;     /* 0 for a board that is no lead */
+};
+
+/* What a tape holds. */
+struct campaign_tape {
+    uint64_t axes;                    /* can be over CAMPAIGN_AXES */
+    uint64_t p;
+    uint64_t points;
+    uint64_t lengths[CAMPAIGN_AXES];  /* of the first axes */
+};
+
+/* ---- the library's functions ------------------------------------------------------------- */
+
+/*
+ * These are the functions of libcampaign.a: slices, each a pointer and its number of elements,
+ * and numbers. The inline functions below call them with the structures above. Another language
+ * binds these.
+ *
+ * A plan is lent as two slices: CAMPAIGN_PLAN_BYTES bytes (axes, p, order, exponents) and
+ * CAMPAIGN_AXES lengths. Slices of other lengths hold no axes, and CAMPAIGN_BAD_AXES is due. A
+ * result slice is exactly as long as is said here, else CAMPAIGN_BAD_RESULT is due, last.
+ */
+#define CAMPAIGN_PLAN_BYTES (2 + 2 * CAMPAIGN_AXES)
+#define CAMPAIGN_PRICES_CELLS 3                    /* moved, added, share */
+#define CAMPAIGN_STEP_CELLS 5                      /* kind, sender, receiver, choice, values */
+#define CAMPAIGN_PART_CELLS 2                      /* start, cells */
+#define CAMPAIGN_TAPE_CELLS (3 + CAMPAIGN_AXES)    /* axes, p, points, lengths */
+
+/*
+ * Planning for a rack controller, over bytes. Refusals 3 to 7, 13.
  *
  * lengths      the axis lengths in axis order, two bytes each, the lower byte first
  * lengths_len  the number of bytes at `lengths`: twice the number of axes n
  * p            the rack has 2^p boards
- * result       where the plan goes: n axis numbers (from 0), then n exponents k, both in plan
- *              order, one byte each. An axis with exponent k is cut in 2^k portions; the
- *              exponents sum to p.
- * result_len   the number of bytes at `result`: exactly 2n
- *
- * Returns CAMPAIGN_PLANNED, or the first of the refusals above, in their order, that is due; then
- * not a byte of `result` has changed. `lengths` and `result` must not overlap, and each must be
- * valid for its length; a length of 0 goes with any non-null pointer.
+ * result       n axis numbers (from 0), then n exponents, both in plan order, one byte each
+ * result_len   exactly 2n
  */
 uint8_t campaign_plan(const uint8_t *lengths, size_t lengths_len, uint8_t p,
                       uint8_t *result, size_t result_len);
+
+/* Planning with prices: see campaign_plan_make. */
+uint8_t campaign_make(const uint32_t *lengths, size_t lengths_len, uint8_t p,
+                      uint8_t *plan, size_t plan_len, uint32_t *slots, size_t slots_len,
+                      uint64_t *prices, size_t prices_len);
+
+/* Pricing: see campaign_plan_price. */
+uint8_t campaign_price(const uint8_t *plan, size_t plan_len,
+                       const uint32_t *slots, size_t slots_len,
+                       uint64_t *prices, size_t prices_len);
+
+/* The step count: see campaign_plan_step_count. One cell. */
+uint8_t campaign_step_count(const uint8_t *plan, size_t plan_len,
+                            const uint32_t *slots, size_t slots_len,
+                            uint64_t *count, size_t count_len);
+
+/* The step at a position: see campaign_plan_step_at. */
+uint8_t campaign_step_at(const uint8_t *plan, size_t plan_len,
+                         const uint32_t *slots, size_t slots_len, uint64_t position,
+                         uint64_t *step, size_t step_len);
+
+/* Held: see campaign_plan_held. One cell. */
+uint8_t campaign_held(const uint8_t *plan, size_t plan_len,
+                      const uint32_t *slots, size_t slots_len, uint64_t position, uint32_t board,
+                      uint64_t *cells, size_t cells_len);
+
+/* Step: see campaign_plan_step. */
+uint8_t campaign_step(const uint8_t *plan, size_t plan_len,
+                      const uint32_t *slots, size_t slots_len,
+                      const int32_t *array, size_t array_len, int64_t *work, size_t work_len,
+                      uint64_t *position, uint64_t *step, size_t step_len);
+
+/* View: see campaign_plan_view. */
+uint8_t campaign_view(const uint8_t *plan, size_t plan_len,
+                      const uint32_t *slots, size_t slots_len,
+                      const int64_t *work, size_t work_len, uint64_t position, uint32_t board,
+                      uint64_t *part, size_t part_len);
+
+/* Gather: see campaign_plan_gather. */
+uint8_t campaign_gather(const uint8_t *plan, size_t plan_len,
+                        const uint32_t *slots, size_t slots_len,
+                        const int64_t *work, size_t work_len, uint64_t position,
+                        int64_t *result, size_t result_len);
+
+/* Scanning a tape: see campaign_tape_scan. */
+uint8_t campaign_scan(const uint8_t *tape, size_t tape_len, uint64_t *scan, size_t scan_len);
+
+/*
+ * Reads a tape's points into `array`, which has room for them or for more; cells after the points
+ * are not touched. Refusals 1, 2, 11.
+ */
+uint8_t campaign_fill(const uint8_t *tape, size_t tape_len, int32_t *array, size_t array_len);
+
+/* ---- over structures --------------------------------------------------------------------- */
+
+/*
+ * Plans a campaign for a rack of 2^p boards: the order of the axes, and into how many portions
+ * each is cut. No way to form the totals, with any division of the axes for so many boards, moves
+ * fewer values or adds up fewer cells. `lengths` has the axes' lengths, in axis order. Refusals
+ * 3 to 7.
+ */
+static inline uint8_t campaign_plan_make(struct campaign_plan *plan,
+                                         struct campaign_prices *prices,
+                                         const uint32_t *lengths, size_t axes, uint8_t p)
+{
+    uint64_t cells[CAMPAIGN_PRICES_CELLS];
+    uint8_t refusal = campaign_make(lengths, axes, p, (uint8_t *)plan, CAMPAIGN_PLAN_BYTES,
+                                    plan->lengths, CAMPAIGN_AXES, cells, CAMPAIGN_PRICES_CELLS);
+
+    if (refusal == CAMPAIGN_OK) {
+        prices->moved = cells[0];
+        prices->added = cells[1];
+        prices->share = cells[2];
+    }
+    return refusal;
+}
+
+/* What a plan costs. Refusals 3 to 6, 8, 9, as of every function that takes a plan. */
+static inline uint8_t campaign_plan_price(const struct campaign_plan *plan,
+                                          struct campaign_prices *prices)
+{
+    uint64_t cells[CAMPAIGN_PRICES_CELLS];
+    uint8_t refusal = campaign_price((const uint8_t *)plan, CAMPAIGN_PLAN_BYTES, plan->lengths,
+                                     CAMPAIGN_AXES, cells, CAMPAIGN_PRICES_CELLS);
+
+    if (refusal == CAMPAIGN_OK) {
+        prices->moved = cells[0];
+        prices->added = cells[1];
+        prices->share = cells[2];
+    }
+    return refusal;
+}
+
+/*
+ * Sizes, of a plan that is not refused: the boards of its rack; the cells that its work area needs;
+ * the cells of a choice, which is the product of the lengths of the axes that it keeps; the points.
+ */
+static inline uint32_t campaign_boards(const struct campaign_plan *plan)
+{
+    return (uint32_t)1 << plan->p;
+}
+
+static inline size_t campaign_work_cells(const struct campaign_plan *plan,
+                                         const struct campaign_prices *prices)
+{
+    return (size_t)prices->share << plan->p;
+}
+
+static inline size_t campaign_choice_cells(const struct campaign_plan *plan, uint64_t choice)
+{
+    size_t cells = 1;
+
+    for (unsigned d = 0; d < plan->axes && d < CAMPAIGN_AXES; d++)
+        if (choice >> d & 1)
+            cells *= plan->lengths[d];
+    return cells;
+}
+
+static inline size_t campaign_points(const struct campaign_plan *plan)
+{
+    return campaign_choice_cells(plan, UINT64_MAX);
+}
+
+/* T: how many steps a plan has. */
+static inline uint8_t campaign_plan_step_count(const struct campaign_plan *plan, uint64_t *count)
+{
+    return campaign_step_count((const uint8_t *)plan, CAMPAIGN_PLAN_BYTES, plan->lengths,
+                               CAMPAIGN_AXES, count, 1);
+}
+
+static inline void campaign_tell(const uint64_t cells[CAMPAIGN_STEP_CELLS],
+                                 struct campaign_step *step)
+{
+    step->kind = cells[0];
+    step->sender = cells[1];
+    step->receiver = cells[2];
+    step->choice = cells[3];
+    step->values = cells[4];
+}
+
+/* The step at a position, CAMPAIGN_DONE at T; nothing is taken. Also refusal 12. */
+static inline uint8_t campaign_plan_step_at(const struct campaign_plan *plan, uint64_t position,
+                                            struct campaign_step *step)
+{
+    uint64_t cells[CAMPAIGN_STEP_CELLS];
+    uint8_t refusal = campaign_step_at((const uint8_t *)plan, CAMPAIGN_PLAN_BYTES, plan->lengths,
+                                       CAMPAIGN_AXES, position, cells, CAMPAIGN_STEP_CELLS);
+
+    if (refusal == CAMPAIGN_OK)
+        campaign_tell(cells, step);
+    return refusal;
+}
+
+/*
+ * How many cells a board holds at a position: those of its choices that are formed and not yet
+ * finished. Also refusal 12.
+ */
+static inline uint8_t campaign_plan_held(const struct campaign_plan *plan, uint64_t position,
+                                         uint32_t board, uint64_t *cells)
+{
+    return campaign_held((const uint8_t *)plan, CAMPAIGN_PLAN_BYTES, plan->lengths, CAMPAIGN_AXES,
+                         position, board, cells, 1);
+}
+
+/*
+ * Takes the step at *position on the work area and adds 1 to *position; at T it takes none and
+ * tells CAMPAIGN_DONE. Also refusals 10, 11, 12.
+ *
+ * array     the campaign's points, row-major in axis order, the last axis fastest
+ * work      campaign_work_cells cells or more; what they hold before the first step plays no part
+ * position  the steps taken so far: 0 before the first
+ */
+static inline uint8_t campaign_plan_step(const struct campaign_plan *plan,
+                                         const int32_t *array, size_t array_len,
+                                         int64_t *work, size_t work_len,
+                                         uint64_t *position, struct campaign_step *step)
+{
+    uint64_t cells[CAMPAIGN_STEP_CELLS];
+    uint8_t refusal = campaign_step((const uint8_t *)plan, CAMPAIGN_PLAN_BYTES, plan->lengths,
+                                    CAMPAIGN_AXES, array, array_len, work, work_len, position,
+                                    cells, CAMPAIGN_STEP_CELLS);
+
+    if (refusal == CAMPAIGN_OK)
+        campaign_tell(cells, step);
+    return refusal;
+}
+
+/*
+ * Where a board's cells of the choice that the step before `position` finished stand in the work
+ * area, row-major in plan order over the board's own portions. Also refusals 11, 12.
+ */
+static inline uint8_t campaign_plan_view(const struct campaign_plan *plan,
+                                         const int64_t *work, size_t work_len,
+                                         uint64_t position, uint32_t board,
+                                         struct campaign_part *part)
+{
+    uint64_t cells[CAMPAIGN_PART_CELLS];
+    uint8_t refusal = campaign_view((const uint8_t *)plan, CAMPAIGN_PLAN_BYTES, plan->lengths,
+                                    CAMPAIGN_AXES, work, work_len, position, board, cells,
+                                    CAMPAIGN_PART_CELLS);
+
+    if (refusal == CAMPAIGN_OK) {
+        part->start = cells[0];
+        part->cells = cells[1];
+    }
+    return refusal;
+}
+
+/*
+ * Copies the choice that the step before `position` finished, whole, from the boards' shares into
+ * `result`, row-major in axis order; result_len is campaign_choice_cells. Also refusals 11, 12, 13.
+ */
+static inline uint8_t campaign_plan_gather(const struct campaign_plan *plan,
+                                           const int64_t *work, size_t work_len,
+                                           uint64_t position, int64_t *result, size_t result_len)
+{
+    return campaign_gather((const uint8_t *)plan, CAMPAIGN_PLAN_BYTES, plan->lengths,
+                           CAMPAIGN_AXES, work, work_len, position, result, result_len);
+}
+
+/*
+ * Judges a tape's form and tells what it holds. Whether such a campaign can be planned is for
+ * campaign_plan_make to say. Refusals 1, 2.
+ */
+static inline uint8_t campaign_tape_scan(const uint8_t *tape, size_t tape_len,
+                                         struct campaign_tape *scan)
+{
+    uint64_t cells[CAMPAIGN_TAPE_CELLS];
+    uint8_t refusal = campaign_scan(tape, tape_len, cells, CAMPAIGN_TAPE_CELLS);
+
+    if (refusal == CAMPAIGN_OK) {
+        scan->axes = cells[0];
+        scan->p = cells[1];
+        scan->points = cells[2];
+        for (unsigned d = 0; d < CAMPAIGN_AXES; d++)
+            scan->lengths[d] = cells[3 + d];
+    }
+    return refusal;
+}
 
 #ifdef __cplusplus
 }

@@ -1,6 +1,8 @@
 //! The independent engine over lent memory: a rack's steps, views and gathers with their
 //! refusals from line 10 on.
 
+use std::mem::size_of;
+
 use compare::choice::Choice;
 use compare::plan::Plan;
 use compare::rack::Rack;
@@ -70,12 +72,19 @@ impl Engine {
         }
     }
 
-    pub fn view(&self, work: &[i64], position: u64, board: u32) -> Result<Vec<i64>, u8> {
+    /// Where a board's part starts in the work area, and how many cells it has.
+    pub fn view(&self, work: &[i64], position: u64, board: u32) -> Result<[u64; 2], u8> {
         let choice = self.finished(work, position)?;
         if u64::from(board) >= self.plan.boards() {
             return Err(12);
         }
-        Ok(self.rack(work).view(choice, u64::from(board)).to_vec())
+        let rack = self.rack(work);
+        let part = rack.view(choice, u64::from(board));
+        let start = part.as_ptr() as usize - rack.work.as_ptr() as usize;
+        match part.len() as u64 {
+            0 => Ok([0, 0]),
+            cells => Ok([(start / size_of::<i64>()) as u64, cells]),
+        }
     }
 
     pub fn gather(&self, work: &[i64], position: u64) -> Result<Vec<i64>, u8> {

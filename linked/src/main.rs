@@ -1,10 +1,12 @@
-//! The proved engine through its static libraries, beside the independent engine.
+//! The proved engine through its static library, beside the independent engine.
 
 mod engine;
 mod lawful;
+mod library;
 mod memory;
 mod plans;
 mod runs;
+mod selftest;
 mod slots;
 mod steps;
 mod tapes;
@@ -16,8 +18,9 @@ use std::time::Instant;
 const USAGE: &str = "\
 usage: linked plans SEED N      compare planning on every small shape, N random requests and every refusal
        linked tapes SEED N      compare reading on N made tapes, and on tapes damaged at every byte
-       linked steps SEED N      compare T, every step and held on every small plan, N random plans and every refusal
+       linked steps SEED N      compare prices, T, every step and held on every small plan, N random plans and every refusal
        linked memory SEED N     compare step, view and gather on lent memory: every small plan, N random plans, large ones and every refusal
+       linked selftest          plant faults between the library and each comparison, which must see them
        linked bench             time planning, reading, steps and whole runs, proved and independent, in one run
 ";
 
@@ -37,6 +40,7 @@ fn main() -> ExitCode {
         ["memory", seed, n] => {
             seed.parse().ok().zip(n.parse().ok()).map(|(s, n)| memory::check(s, n))
         }
+        ["selftest"] => Some(selftest::check()),
         ["bench"] => {
             plans::bench();
             tapes::bench();
@@ -59,6 +63,8 @@ fn main() -> ExitCode {
 pub struct Count {
     pub passed: u64,
     pub failed: u64,
+    /// Under a planted fault nothing is shown.
+    pub quiet: bool,
 }
 
 impl Count {
@@ -68,7 +74,7 @@ impl Count {
             return;
         }
         self.failed += 1;
-        if self.failed <= 5 {
+        if self.failed <= 5 && !self.quiet {
             println!("differs: {}", what());
         }
     }

@@ -1,4 +1,4 @@
-//! Step, view and gather on lent memory through the probe's library, beside a rack with
+//! Step, view and gather on lent memory through the library, beside a rack with
 //! memory of its own and beside direct sums.
 
 use std::hint::black_box;
@@ -10,8 +10,9 @@ use compare::totals::{direct_sums, direct_sums_by_rows};
 
 use crate::engine::Engine;
 use crate::lawful::{every, fitting, lawful, most_planned, most_steps};
+use crate::library;
 use crate::plans::shape;
-use crate::runs::{self, REFUSED};
+
 use crate::slots::{judged, spelled, told, Slots};
 use crate::Count;
 
@@ -66,13 +67,18 @@ impl Lent {
         let (mut due_work, mut due_position) = (work.to_vec(), at);
         let mut due_out: [u64; 10] = std::array::from_fn(|i| frame(i) as u64);
         let mut out = due_out;
-        let answer = runs::step(&self.slots, array, work, position, &mut out[1..=len]);
-        let due_answer = if len == TOLD { 0 } else { 13 };
-        if due_answer == 0 {
-            let due = self.due(|engine| engine.step(array, &mut due_work, &mut due_position));
-            let cells = due.unwrap_or_else(|number| [REFUSED, 0, 0, 0, u64::from(number)]);
-            due_out[1..=len].copy_from_slice(&cells);
-        }
+        let answer = library::step(&self.slots, array, work, position, &mut out[1..=len]);
+        let due = self.due(|engine| match len {
+            TOLD => engine.step(array, &mut due_work, &mut due_position),
+            _ => engine.step(array, &mut due_work.clone(), &mut at.clone()).and(Err(13)),
+        });
+        let due_answer = due.map_or_else(
+            |number| number,
+            |cells| {
+                due_out[1..=len].copy_from_slice(&cells);
+                0
+            },
+        );
         let same = (answer, out, *position) == (due_answer, due_out, due_position);
         count.note(same && work == due_work, || {
             let cell = work.iter().zip(&due_work).position(|(cell, due)| cell != due);
@@ -82,22 +88,19 @@ impl Lent {
                 self.slots
             )
         });
-        match (answer, out[1]) {
-            (0, REFUSED) => out[TOLD] as u8,
-            _ => answer,
-        }
+        answer
     }
 
     fn view(&self, count: &mut Count, work: &[i64], position: u64, board: u32, fit: Fit) -> u8 {
-        let due = self.due(|engine| engine.view(work, position, board));
-        let call = |cells: &mut [i64]| runs::view(&self.slots, work, position, board, cells);
+        let due = self.due(|engine| engine.view(work, position, board)).map(|part| part.to_vec());
+        let call = |part: &mut [u64]| library::view(&self.slots, work, position, board, part);
         let what = || format!("view of board {board} at {position} of {:?}", self.slots);
         shown(count, due, fit, call, what)
     }
 
     fn gather(&self, count: &mut Count, work: &[i64], position: u64, fit: Fit) -> u8 {
         let due = self.due(|engine| engine.gather(work, position));
-        let call = |result: &mut [i64]| runs::gather(&self.slots, work, position, result);
+        let call = |result: &mut [i64]| library::gather(&self.slots, work, position, result);
         let what = || format!("gather at {position} of {:?}", self.slots);
         shown(count, due, fit, call, what)
     }
@@ -108,12 +111,29 @@ fn frame(i: usize) -> i64 {
     0x5a5a_0000_0000_00a5 ^ i as i64
 }
 
+/// A cell of a lent slice.
+trait Lend: Copy + PartialEq {
+    fn before(i: usize) -> Self;
+}
+
+impl Lend for i64 {
+    fn before(i: usize) -> i64 {
+        frame(i)
+    }
+}
+
+impl Lend for u64 {
+    fn before(i: usize) -> u64 {
+        frame(i) as u64
+    }
+}
+
 /// A call that fills a lent slice: its answer, and the slice with the cells around it.
-fn shown(
+fn shown<T: Lend>(
     count: &mut Count,
-    due: Result<Vec<i64>, u8>,
+    due: Result<Vec<T>, u8>,
     fit: Fit,
-    call: impl FnOnce(&mut [i64]) -> u8,
+    call: impl FnOnce(&mut [T]) -> u8,
     what: impl FnOnce() -> String,
 ) -> u8 {
     let right = due.as_ref().map_or(2, Vec::len);
@@ -122,7 +142,7 @@ fn shown(
         Fit::Short => right.saturating_sub(1),
         Fit::Long => right + 1,
     };
-    let mut cells: Vec<i64> = (0..len + 2).map(frame).collect();
+    let mut cells: Vec<T> = (0..len + 2).map(T::before).collect();
     let mut due_cells = cells.clone();
     let answer = call(&mut cells[1..=len]);
     let due_answer = match due {
@@ -161,16 +181,27 @@ pub fn check(seed: u64, n: u64) -> Count {
         whole(&mut count, &mut random, &plan);
         anywhere(&mut count, &mut random, &plan);
     }
-    for index in 0..n {
-        let lengths = small_shape(&mut random);
-        let p = fitting(&lengths, random.below(6) as u8);
-        let plan = some_plan(&mut random, &lengths, p, index % 2 == 0);
-        whole(&mut count, &mut random, &plan);
-        anywhere(&mut count, &mut random, &plan);
-    }
+    requested(&mut count, &mut random, n);
     largest(&mut count, &mut random);
     refusals(&mut count, &mut random);
     count
+}
+
+/// Random plans alone.
+pub fn requests(seed: u64, n: u64) -> Count {
+    let mut count = Count { quiet: true, ..Count::default() };
+    requested(&mut count, &mut Random::new(seed), n);
+    count
+}
+
+fn requested(count: &mut Count, random: &mut Random, n: u64) {
+    for index in 0..n {
+        let lengths = small_shape(random);
+        let p = fitting(&lengths, random.below(6) as u8);
+        let plan = some_plan(random, &lengths, p, index % 2 == 0);
+        whole(count, random, &plan);
+        anywhere(count, random, &plan);
+    }
 }
 
 /// Up to 128 points: few axes of which one is long, or several short ones.
@@ -216,7 +247,7 @@ fn whole(count: &mut Count, random: &mut Random, plan: &Plan) {
         show(count, random, &lent, &mut work, position);
         if let Step::Finish(choice) = *step {
             let sums = direct_sums(&plan.lengths, &array, choice);
-            let call = |result: &mut [i64]| runs::gather(&lent.slots, &work, position, result);
+            let call = |result: &mut [i64]| library::gather(&lent.slots, &work, position, result);
             let what = || format!("totals of {choice} at {position} of {plan:?}");
             shown(count, Ok(sums), Fit::Right, call, what);
         }
@@ -307,14 +338,14 @@ fn run(count: &mut Count, random: &mut Random, plan: &Plan) {
     let mut work = foreign(random, engine.area());
     let (mut position, mut out) = (0, [0; TOLD]);
     for (at, step) in engine.steps.iter().map(Some).chain([None]).enumerate() {
-        let answer = runs::step(&slots, &array, &mut work, &mut position, &mut out);
+        let answer = library::step(&slots, &array, &mut work, &mut position, &mut out);
         let due = (at as u64 + 1).min(engine.total());
         count.note((answer, out, position) == (0, told(step), due), || {
             format!("step at {at} of {plan:?}: {answer} {out:?}, position {position}")
         });
         if let Some(&Step::Finish(choice)) = step {
             let sums = direct_sums_by_rows(&plan.lengths, &array, choice);
-            let call = |result: &mut [i64]| runs::gather(&slots, &work, position, result);
+            let call = |result: &mut [i64]| library::gather(&slots, &work, position, result);
             let what = || format!("totals of {choice} at {position} of {plan:?}");
             shown(count, Ok(sums), Fit::Right, call, what);
         }
@@ -364,9 +395,9 @@ fn lines(count: &mut Count, random: &mut Random, chosen: &[u8]) {
         }
     }
     let mut position = if due(12) { total + 1 } else { 0 };
-    let (len, line) = if due(13) { (TOLD + 1, 13) } else { (TOLD, first(13)) };
+    let len = TOLD + usize::from(due(13));
     let answer = lent.step(count, &array, &mut work, &mut position, len);
-    answered(count, &lent, "step", answer, line);
+    answered(count, &lent, "step", answer, chosen.first().copied().unwrap_or(0));
 }
 
 fn answered(count: &mut Count, lent: &Lent, name: &str, answer: u8, line: u8) {

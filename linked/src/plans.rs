@@ -1,4 +1,4 @@
-//! Planning through the controller's library.
+//! Planning through the library: over bytes, and with prices.
 
 use std::hint::black_box;
 
@@ -7,22 +7,9 @@ use compare::plan::{planned, Plan};
 use compare::random::Random;
 use compare::{price, search};
 
+use crate::library::{make, plan};
+use crate::slots::{spelled as slots_of, Slots, SLOTS, SMALL};
 use crate::{nanoseconds, Count};
-
-extern "C" {
-    fn campaign_plan(
-        lengths: *const u8,
-        lengths_len: usize,
-        p: u8,
-        result: *mut u8,
-        result_len: usize,
-    ) -> u8;
-}
-
-/// The proved planner over slices, which is all that it asks of its caller.
-fn plan(lengths: &[u8], p: u8, result: &mut [u8]) -> u8 {
-    unsafe { campaign_plan(lengths.as_ptr(), lengths.len(), p, result.as_mut_ptr(), result.len()) }
-}
 
 fn bytes(lengths: &[u64]) -> Vec<u8> {
     lengths.iter().flat_map(|&length| (length as u16).to_le_bytes()).collect()
@@ -32,12 +19,61 @@ pub fn check(seed: u64, n: u64) -> Count {
     let mut count = Count::default();
     small_shapes(&mut count);
     let mut random = Random::new(seed);
-    for _ in 0..n {
-        let (lengths, p) = request(&mut random);
-        expect(&mut count, &bytes(&lengths), p, 2 * lengths.len());
+    for lengths in [vec![], vec![65_536], vec![1; 9], vec![u64::from(u32::MAX), 2]] {
+        priced(&mut count, &lengths, 0, LENS[0]);
     }
+    requested(&mut count, &mut random, n);
     refusals(&mut count, &mut random);
     count
+}
+
+/// Random requests alone.
+pub fn requests(seed: u64, n: u64) -> Count {
+    let mut count = Count { quiet: true, ..Count::default() };
+    requested(&mut count, &mut Random::new(seed), n);
+    count
+}
+
+fn requested(count: &mut Count, random: &mut Random, n: u64) {
+    for _ in 0..n {
+        let (lengths, p) = request(random);
+        expect(count, &bytes(&lengths), p, 2 * lengths.len());
+        priced(count, &lengths, p, LENS[0]);
+    }
+}
+
+/// Cells of a plan's prices.
+const PRICES: usize = 3;
+
+/// Lengths of the three slices that planning with prices is lent: right, and each one wrong.
+const LENS: [[usize; 3]; 6] = [
+    [SMALL, SLOTS, PRICES],
+    [SMALL + 1, SLOTS, PRICES],
+    [SMALL, SLOTS - 1, PRICES],
+    [SMALL, SLOTS, PRICES - 1],
+    [SMALL, SLOTS, PRICES + 1],
+    [0, 0, 0],
+];
+
+/// Planning with prices into slices of some lengths, byte for byte.
+fn priced(count: &mut Count, lengths: &[u64], p: u8, lens: [usize; 3]) {
+    let asked: Vec<u32> = lengths.iter().map(|&length| length as u32).collect();
+    let mut slots = Slots { small: vec![0xa5; lens[0]], lengths: vec![0xa5a5; lens[1]] };
+    let mut prices = vec![0x5a5a_0000_00a5_u64; lens[2]];
+    let (mut due_slots, mut due_prices) = (slots.clone(), prices.clone());
+    let answer = make(&asked, p, &mut slots, &mut prices);
+    let due = match planned(lengths, u32::from(p)) {
+        Err(Refusal(number)) => number,
+        Ok(_) if lens != LENS[0] => 13,
+        Ok(plan) => {
+            due_slots = slots_of(&plan);
+            due_prices = vec![price::moved(&plan), price::added(&plan), plan.share()];
+            0
+        }
+    };
+    count.note((answer, &slots, &prices) == (due, &due_slots, &due_prices), || {
+        format!("{lengths:?} p {p}: {answer} {slots:?} {prices:?}, due {due} {due_prices:?}")
+    });
 }
 
 /// What is due for any bytes, and the result slice afterwards, byte for byte.
@@ -151,6 +187,9 @@ fn refusals(count: &mut Count, random: &mut Random) {
     ];
     for lengths in shapes {
         for p in 0..=255 {
+            for lens in LENS {
+                priced(count, lengths, p, lens);
+            }
             for result_len in [0, 2 * lengths.len() - 1, 2 * lengths.len(), 2 * lengths.len() + 1] {
                 expect(count, &bytes(lengths), p, result_len);
             }

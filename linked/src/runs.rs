@@ -1,4 +1,4 @@
-//! Step, view and gather through the probe's library.
+//! Whole runs through the library.
 
 use std::time::Instant;
 
@@ -7,110 +7,14 @@ use compare::plan::{planned, Plan};
 use compare::random::Random;
 use compare::tree::{cleared, Tree};
 
+use crate::library::{gather, step};
 use crate::slots::{spelled, Slots};
-
-extern "C" {
-    fn run_step(
-        small: *const u8,
-        small_len: usize,
-        lengths: *const u32,
-        lengths_len: usize,
-        array: *const i32,
-        array_len: usize,
-        work: *mut i64,
-        work_len: usize,
-        position: *mut u64,
-        out: *mut u64,
-        out_len: usize,
-    ) -> u8;
-    fn run_view(
-        small: *const u8,
-        small_len: usize,
-        lengths: *const u32,
-        lengths_len: usize,
-        work: *const i64,
-        work_len: usize,
-        position: u64,
-        board: u32,
-        cells: *mut i64,
-        cells_len: usize,
-    ) -> u8;
-    fn run_gather(
-        small: *const u8,
-        small_len: usize,
-        lengths: *const u32,
-        lengths_len: usize,
-        work: *const i64,
-        work_len: usize,
-        position: u64,
-        result: *mut i64,
-        result_len: usize,
-    ) -> u8;
-}
-
-pub fn step(
-    slots: &Slots,
-    array: &[i32],
-    work: &mut [i64],
-    position: &mut u64,
-    out: &mut [u64],
-) -> u8 {
-    unsafe {
-        run_step(
-            slots.small.as_ptr(),
-            slots.small.len(),
-            slots.lengths.as_ptr(),
-            slots.lengths.len(),
-            array.as_ptr(),
-            array.len(),
-            work.as_mut_ptr(),
-            work.len(),
-            position,
-            out.as_mut_ptr(),
-            out.len(),
-        )
-    }
-}
-
-pub fn view(slots: &Slots, work: &[i64], position: u64, board: u32, cells: &mut [i64]) -> u8 {
-    unsafe {
-        run_view(
-            slots.small.as_ptr(),
-            slots.small.len(),
-            slots.lengths.as_ptr(),
-            slots.lengths.len(),
-            work.as_ptr(),
-            work.len(),
-            position,
-            board,
-            cells.as_mut_ptr(),
-            cells.len(),
-        )
-    }
-}
-
-pub fn gather(slots: &Slots, work: &[i64], position: u64, result: &mut [i64]) -> u8 {
-    unsafe {
-        run_gather(
-            slots.small.as_ptr(),
-            slots.small.len(),
-            slots.lengths.as_ptr(),
-            slots.lengths.len(),
-            work.as_ptr(),
-            work.len(),
-            position,
-            result.as_mut_ptr(),
-            result.len(),
-        )
-    }
-}
 
 /// What a step tells first.
 const EXPAND: u64 = 1;
 const TRANSFER: u64 = 2;
 const FINISH: u64 = 3;
 const DONE: u64 = 4;
-pub const REFUSED: u64 = 5;
 
 /// Milliseconds of a whole run and of its parts.
 #[derive(Clone, Copy, Default)]
@@ -154,7 +58,8 @@ impl Campaign {
         let started = Instant::now();
         loop {
             let begun = Instant::now();
-            step(&self.slots, &self.points, &mut self.work, &mut position, &mut out);
+            let refusal = step(&self.slots, &self.points, &mut self.work, &mut position, &mut out);
+            assert_eq!(refusal, 0, "a lawful run");
             match out[0] {
                 EXPAND if position == 1 => spent.root += since(begun),
                 EXPAND => spent.expansions += since(begun),
@@ -166,7 +71,7 @@ impl Campaign {
                     assert_eq!(refusal, 0, "a lawful gather");
                 }
                 DONE => break,
-                _ => panic!("a lawful run is refused: {out:?}"),
+                _ => panic!("no step is told so: {out:?}"),
             }
         }
         spent.whole = since(started);

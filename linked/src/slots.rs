@@ -1,4 +1,4 @@
-//! Plans and steps as the probe's library takes and tells them.
+//! Plans and steps as the library takes and tells them.
 
 use compare::judge::{self, Refusal};
 use compare::plan::Plan;
@@ -12,7 +12,7 @@ pub const SMALL: usize = EXPONENTS + SLOTS;
 
 /// A plan as the library takes it, or what damage makes of one: axes, p, the order's
 /// slots and the exponents'; and the lengths' slots.
-#[derive(Clone, Debug)]
+#[derive(Clone, Debug, PartialEq)]
 pub struct Slots {
     pub small: Vec<u8>,
     pub lengths: Vec<u32>,

@@ -1,4 +1,4 @@
-//! T, the step at a position and held through the probe's library, beside a rack that
+//! Prices, T, the step at a position and held through the library, beside a rack that
 //! lists its steps by plain recursion.
 
 use std::hint::black_box;
@@ -8,46 +8,19 @@ use compare::choice;
 use compare::held::Held;
 use compare::judge;
 use compare::plan::{planned, Plan};
+use compare::price;
 use compare::random::Random;
 use compare::steps::{self, Step};
 
 use crate::lawful::{every, fitting, lawful, most_planned, most_steps};
+use crate::library;
 use crate::plans::request;
 use crate::slots::{judged, spelled, told, Slots};
 use crate::{nanoseconds, Count};
 
-extern "C" {
-    fn rack_count(
-        small: *const u8,
-        small_len: usize,
-        lengths: *const u32,
-        lengths_len: usize,
-        out: *mut u64,
-        out_len: usize,
-    ) -> u8;
-    fn rack_step(
-        small: *const u8,
-        small_len: usize,
-        lengths: *const u32,
-        lengths_len: usize,
-        at: u64,
-        out: *mut u64,
-        out_len: usize,
-    ) -> u8;
-    fn rack_held(
-        small: *const u8,
-        small_len: usize,
-        lengths: *const u32,
-        lengths_len: usize,
-        at: u64,
-        board: u32,
-        out: *mut u64,
-        out_len: usize,
-    ) -> u8;
-}
-
 #[derive(Clone, Copy, Debug)]
 enum Call {
+    Price,
     Count,
     Step(u64),
     Held(u64, u32),
@@ -56,27 +29,19 @@ enum Call {
 impl Call {
     /// How long a lent slice must be.
     fn cells(self) -> usize {
-        if matches!(self, Call::Step(_)) {
-            5
-        } else {
-            1
+        match self {
+            Call::Price => 3,
+            Call::Step(_) => 5,
+            Call::Count | Call::Held(..) => 1,
         }
     }
 
     fn make(self, slots: &Slots, out: &mut [u64]) -> u8 {
-        let (small, small_len) = (slots.small.as_ptr(), slots.small.len());
-        let (lengths, lengths_len) = (slots.lengths.as_ptr(), slots.lengths.len());
-        let (out, out_len) = (out.as_mut_ptr(), out.len());
-        unsafe {
-            match self {
-                Call::Count => rack_count(small, small_len, lengths, lengths_len, out, out_len),
-                Call::Step(at) => {
-                    rack_step(small, small_len, lengths, lengths_len, at, out, out_len)
-                }
-                Call::Held(at, board) => {
-                    rack_held(small, small_len, lengths, lengths_len, at, board, out, out_len)
-                }
-            }
+        match self {
+            Call::Price => library::price(slots, out),
+            Call::Count => library::step_count(slots, out),
+            Call::Step(at) => library::step_at(slots, at, out),
+            Call::Held(at, board) => library::held(slots, at, board, out),
         }
     }
 }
@@ -104,7 +69,11 @@ impl Rack<'_> {
 
     fn due(&self, call: Call) -> Due {
         match call {
+            Call::Price => {
+                Ok([price::moved(self.plan), price::added(self.plan), self.plan.share(), 0, 0])
+            }
             Call::Count => Ok([self.total(), 0, 0, 0, 0]),
+            Call::Step(at) if at > self.total() => Err(12),
             Call::Step(at) => Ok(told(self.steps.get(at as usize))),
             Call::Held(at, board) => {
                 if at > self.total() || u64::from(board) >= self.plan.boards() {
@@ -141,26 +110,38 @@ pub fn check(seed: u64, n: u64) -> Count {
     for plan in every(3, 4) {
         whole(&mut count, &mut random, &plan);
     }
-    for index in 0..n {
-        let (lengths, p) = request(&mut random);
-        let plan = match index % 2 {
-            0 => planned(&lengths, fitting(&lengths, p)).expect("p has room"),
-            _ => lawful(&mut random, &lengths, fitting(&lengths, p)),
-        };
-        whole(&mut count, &mut random, &plan);
-    }
+    requested(&mut count, &mut random, n);
     largest(&mut count, &mut random);
     refusals(&mut count, &mut random);
     count
 }
 
-/// T, every step of the list, the positions past it, and what boards hold.
+/// Random plans alone.
+pub fn requests(seed: u64, n: u64) -> Count {
+    let mut count = Count { quiet: true, ..Count::default() };
+    requested(&mut count, &mut Random::new(seed), n);
+    count
+}
+
+fn requested(count: &mut Count, random: &mut Random, n: u64) {
+    for index in 0..n {
+        let (lengths, p) = request(random);
+        let plan = match index % 2 {
+            0 => planned(&lengths, fitting(&lengths, p)).expect("p has room"),
+            _ => lawful(random, &lengths, fitting(&lengths, p)),
+        };
+        whole(count, random, &plan);
+    }
+}
+
+/// Prices, T, every step of the list, the positions past it, and what boards hold.
 fn whole(count: &mut Count, random: &mut Random, plan: &Plan) {
     judge::plan(plan).expect("a lawful plan");
     let slots = spelled(plan);
     let rack = Rack::new(plan);
     let mut same = |call: Call| expect(count, &slots, call, call.cells(), rack.due(call));
     let total = rack.total();
+    same(Call::Price);
     same(Call::Count);
     for at in (0..=total + 2).chain([total + random.below(1 << 40), u64::MAX]) {
         same(Call::Step(at));
@@ -242,8 +223,8 @@ fn lines(count: &mut Count, chosen: &[u8]) {
     let mut slots = spelled(&plan);
     chosen.iter().for_each(|&line| slots.break_line(line));
     let at = if chosen.contains(&12) { rack.total() + 1 } else { rack.total() };
-    for call in [Call::Count, Call::Step(at), Call::Held(at, 1)] {
-        let of_call = |&&line: &&u8| line != 12 || matches!(call, Call::Held(..));
+    for call in [Call::Price, Call::Count, Call::Step(at), Call::Held(at, 1)] {
+        let of_call = |&&line: &&u8| line != 12 || matches!(call, Call::Step(_) | Call::Held(..));
         let first = chosen.iter().find(of_call);
         let len = call.cells() + usize::from(chosen.contains(&13));
         let due = first.map_or_else(|| rack.due(call), |&line| Err(line));
@@ -256,7 +237,8 @@ fn any(count: &mut Count, random: &mut Random, slots: &Slots) {
     let plan = judged(slots);
     let rack = plan.as_ref().map(Rack::new).map_err(|&number| number);
     let (at, board) = (random.below(200), random.below(9) as u32);
-    for call in [Call::Count, Call::Step(at), Call::Held(at, board), Call::Held(0, 0)] {
+    let calls = [Call::Price, Call::Count, Call::Step(at), Call::Held(at, board), Call::Held(0, 0)];
+    for call in calls {
         let due = rack.as_ref().map_or_else(|&number| Err(number), |rack| rack.due(call));
         for len in [call.cells() - 1, call.cells(), call.cells() + 1] {
             expect(count, slots, call, len, due);

@@ -1,4 +1,4 @@
-//! Reading tapes through the probe's library.
+//! Reading tapes through the library.
 
 use std::hint::black_box;
 
@@ -8,22 +8,11 @@ use compare::random::Random;
 use compare::spell;
 use compare::tape::{self, Run, Tape};
 
+use crate::library::{fill, scan};
 use crate::{nanoseconds, Count};
 
-extern "C" {
-    fn tape_scan(tape: *const u8, tape_len: usize, out: *mut u64, out_len: usize) -> u8;
-    fn tape_fill(tape: *const u8, tape_len: usize, slice: *mut i32, slice_len: usize) -> u8;
-}
-
+/// Cells of a scan.
 const SCANNED: usize = 11;
-
-fn scan(tape: &[u8], out: &mut [u64]) -> u8 {
-    unsafe { tape_scan(tape.as_ptr(), tape.len(), out.as_mut_ptr(), out.len()) }
-}
-
-fn fill(tape: &[u8], slice: &mut [i32]) -> u8 {
-    unsafe { tape_fill(tape.as_ptr(), tape.len(), slice.as_mut_ptr(), slice.len()) }
-}
 
 /// `n` made tapes; then small lawful tapes cut at every byte, with every byte changed,
 /// and with every two commands swapped.
@@ -38,6 +27,13 @@ pub fn check(seed: u64, n: u64) -> Count {
         damaged(&mut count, &mut random, &commands);
     }
     longest(&mut count);
+    count
+}
+
+/// Made tapes alone.
+pub fn made(seed: u64, n: u64) -> Count {
+    let mut count = Count { quiet: true, ..Count::default() };
+    (0..n).for_each(|index| expect(&mut count, &make::made(seed, index).tape));
     count
 }
 

@@ -5,7 +5,7 @@ use mathlib.Core.List.{List, [], _∷_, _++_}
 use lib.ListN.{replicate}
 use Rattle.plan_spec.specs.declared.types.Plan.{Plan}
 use Rattle.campaign_slices.specs.Computing.{computing}
-use Rattle.campaign_slices.specs.Racks.{planFrom, countRefusal, stepRefusal, holdRefusal, counted, stepped, held}
+use Rattle.campaign_slices.specs.Racks.{planFrom, bytesOf, priceRefusal, countRefusal, atRefusal, holdRefusal, priced, counted, steppedAt, held}
 
 -- two axes, p, the order and the exponents in eight slots each; the lengths in eight slots
 abbrev slots : ℕ → ℕ → List ℕ
@@ -17,43 +17,47 @@ plan axes p order exponents lengths = planFrom (axes ∷ p ∷ (order ++ exponen
 abbrev P2 : Plan
 P2 = plan 2 1 (slots 1 0) (slots 0 1) (slots 2 3)
 
--- T; each step, and done at T and past it; what the two boards hold after the first step and at the end
+-- T; each step, and done at T; its prices; the plan's bytes again; what the two boards hold after the first step and at the end
 steps : (counted P2 (9 ∷ []) ≡ (6 ∷ []))
-    × (stepped P2 0 (replicate 5 9) ≡ (1 ∷ 0 ∷ 0 ∷ 3 ∷ 0 ∷ []))
-    × (stepped P2 1 (replicate 5 9) ≡ (3 ∷ 0 ∷ 0 ∷ 2 ∷ 0 ∷ []))
-    × (stepped P2 2 (replicate 5 9) ≡ (2 ∷ 1 ∷ 0 ∷ 1 ∷ 2 ∷ []))
-    × (stepped P2 3 (replicate 5 9) ≡ (1 ∷ 0 ∷ 0 ∷ 1 ∷ 0 ∷ []))
-    × (stepped P2 4 (replicate 5 9) ≡ (3 ∷ 0 ∷ 0 ∷ 0 ∷ 0 ∷ []))
-    × (stepped P2 5 (replicate 5 9) ≡ (3 ∷ 0 ∷ 0 ∷ 1 ∷ 0 ∷ []))
-    × (stepped P2 6 (replicate 5 9) ≡ (4 ∷ 0 ∷ 0 ∷ 0 ∷ 0 ∷ []))
-    × (stepped P2 100 (replicate 5 9) ≡ (4 ∷ 0 ∷ 0 ∷ 0 ∷ 0 ∷ []))
+    × (steppedAt P2 0 (replicate 5 9) ≡ (1 ∷ 0 ∷ 0 ∷ 3 ∷ 0 ∷ []))
+    × (steppedAt P2 1 (replicate 5 9) ≡ (3 ∷ 0 ∷ 0 ∷ 2 ∷ 0 ∷ []))
+    × (steppedAt P2 2 (replicate 5 9) ≡ (2 ∷ 1 ∷ 0 ∷ 1 ∷ 2 ∷ []))
+    × (steppedAt P2 3 (replicate 5 9) ≡ (1 ∷ 0 ∷ 0 ∷ 1 ∷ 0 ∷ []))
+    × (steppedAt P2 4 (replicate 5 9) ≡ (3 ∷ 0 ∷ 0 ∷ 0 ∷ 0 ∷ []))
+    × (steppedAt P2 5 (replicate 5 9) ≡ (3 ∷ 0 ∷ 0 ∷ 1 ∷ 0 ∷ []))
+    × (steppedAt P2 6 (replicate 5 9) ≡ (4 ∷ 0 ∷ 0 ∷ 0 ∷ 0 ∷ []))
+    × (priced P2 (replicate 3 9) ≡ (2 ∷ 14 ∷ 4 ∷ []))
+    × (bytesOf P2 ≡ (2 ∷ 1 ∷ (slots 1 0 ++ slots 0 1)))
     × (held P2 1 0 (9 ∷ []) ≡ (3 ∷ []))
     × (held P2 1 1 (9 ∷ []) ≡ (4 ∷ []))
     × (held P2 6 0 (9 ∷ []) ≡ (0 ∷ []))
 unfolding computing
-steps = (refl, refl, refl, refl, refl, refl, refl, refl, refl, refl, refl, refl)
+steps = (refl, refl, refl, refl, refl, refl, refl, refl, refl, refl, refl, refl, refl)
 
 -- a byte too few, a length too many; nine axes; a length of 0; too many points; p over 10; an axis named twice, a slot that is used; exponents that do
 -- not sum to p; the position past T, the board past the last, both before the slice; a slice too long, too short; none
 refused : (countRefusal (planFrom (replicate 17 1) (slots 2 3)) 1 ≡ 3)
     × (countRefusal (planFrom (2 ∷ 1 ∷ (slots 1 0 ++ slots 0 1)) (replicate 9 2)) 1 ≡ 3)
-    × (stepRefusal (plan 9 11 (slots 1 1) (slots 0 1) (slots 0 3)) 5 ≡ 3)
-    × (stepRefusal (plan 2 11 (slots 1 1) (slots 0 1) (slots 0 3)) 5 ≡ 4)
-    × (stepRefusal (plan 2 11 (slots 1 1) (slots 0 1) (slots 4096 4097)) 5 ≡ 5)
-    × (stepRefusal (plan 2 11 (slots 1 1) (slots 0 1) (slots 2 3)) 4 ≡ 6)
-    × (stepRefusal (plan 2 1 (slots 1 1) (slots 1 1) (slots 2 3)) 4 ≡ 8)
-    × (stepRefusal (plan 1 1 (slots 0 0) (slots 0 1) (slots 2 0)) 4 ≡ 8)
+    × (atRefusal (plan 9 11 (slots 1 1) (slots 0 1) (slots 0 3)) 0 5 ≡ 3)
+    × (atRefusal (plan 2 11 (slots 1 1) (slots 0 1) (slots 0 3)) 0 5 ≡ 4)
+    × (atRefusal (plan 2 11 (slots 1 1) (slots 0 1) (slots 4096 4097)) 0 5 ≡ 5)
+    × (atRefusal (plan 2 11 (slots 1 1) (slots 0 1) (slots 2 3)) 0 4 ≡ 6)
+    × (atRefusal (plan 2 1 (slots 1 1) (slots 1 1) (slots 2 3)) 0 4 ≡ 8)
+    × (atRefusal (plan 1 1 (slots 0 0) (slots 0 1) (slots 2 0)) 0 4 ≡ 8)
     × (holdRefusal (plan 2 1 (slots 1 0) (slots 1 1) (slots 2 3)) 7 2 2 ≡ 9)
     × (holdRefusal P2 7 0 2 ≡ 12)
     × (holdRefusal P2 6 2 2 ≡ 12)
     × (holdRefusal P2 6 1 2 ≡ 13)
-    × (stepRefusal P2 4 ≡ 13)
+    × (atRefusal P2 0 4 ≡ 13)
     × (countRefusal P2 0 ≡ 13)
+    × (priceRefusal P2 2 ≡ 13)
+    × (atRefusal P2 6 5 ≡ 0)
+    × (atRefusal P2 7 4 ≡ 12)
     × (countRefusal P2 1 ≡ 0)
 unfolding computing
-refused = (refl, refl, refl, refl, refl, refl, refl, refl, refl, refl, refl, refl, refl, refl, refl)
+refused = (refl, refl, refl, refl, refl, refl, refl, refl, refl, refl, refl, refl, refl, refl, refl, refl, refl, refl)
 
 -- a refusal leaves the lent slice as it was
-left : (counted P2 (7 ∷ 8 ∷ []) ≡ (7 ∷ 8 ∷ [])) × (stepped P2 0 (7 ∷ 8 ∷ []) ≡ (7 ∷ 8 ∷ [])) × (held P2 7 0 (7 ∷ []) ≡ (7 ∷ []))
+left : (counted P2 (7 ∷ 8 ∷ []) ≡ (7 ∷ 8 ∷ [])) × (steppedAt P2 0 (7 ∷ 8 ∷ []) ≡ (7 ∷ 8 ∷ [])) × (held P2 7 0 (7 ∷ []) ≡ (7 ∷ []))
 unfolding computing
 left = (refl, refl, refl)

@@ -4,21 +4,24 @@ use mathlib.Core.Path.{_≡_, refl, sym, ap, _∙_}
 use mathlib.Core.List.{List, [], _∷_, _++_, append-nil}
 use native.Mathlib.Omega.{arith}
 use native.Mathlib.Nat.{zero-add}
-use borrow.Author.Tests.{eq-eqb, ne-eqb}
-use lib.ListN.{length, take, drop, set, getD, length-drop, drop-of-length-le}
-use lib.Seq.{sets, sets-eq, take-all, length-take-le, getD-drop}
-use Rattle.cube_spec.specs.Checks.{Check, first, gives, refuses, answered}
+use borrow.Author.Tests.{eq-eqb, ne-eqb, lt-ltb, le-ltb}
+use lib.ListN.{length, take, drop, set, getD, length-drop, length-append, length-set, drop-of-length-le}
+use lib.Seq.{sets, sets-eq, length-sets, take-all, length-take-le, getD-drop, take-append-seam, drop-append-seam}
+use Rattle.cube_spec.specs.Checks.{Check, check, first, gives, refuses, answered}
 use Rattle.cube_spec.proofs.Sums.{by}
 use Rattle.plan_spec.specs.declared.types.Plan.{Plan}
+use Rattle.plan_spec.specs.declared.types.Prices.{Prices}
 use Rattle.plan_spec.specs.Plans.{stepCount, listsOf}
 use Rattle.plan_spec.specs.Refusals.{planChecks, lengthChecks, planRefusal}
+use Rattle.plan_spec.specs.Answers.{pricesOf, pricing}
 use Rattle.rack_spec.specs.Steps.{steps}
-use Rattle.rack_spec.proofs.Refusing.{Numbered, plan-numbered, first-due, first-passed}
+use Rattle.rack_spec.proofs.Refusing.{Numbered, plan-numbered, plan-due, plan-passed, first-due, first-passed}
 use Rattle.rack_spec.specs.Held as Held
 use Rattle.rack_spec.specs.Finding.{planGrid}
-use Rattle.rack_spec.specs.Answers.{Told, toldAt, heldChecks, heldRefusal, holding, counting}
-use Rattle.campaign_slices.specs.Probing.{writtenOr}
-use Rattle.campaign_slices.specs.Racks.{noPlan, planFrom, lentRefusal, countRefusal, stepRefusal, holdRefusal, cellsTold, counted, stepped, held}
+use Rattle.rack_spec.specs.Answers.{Told, toldAt, pastEnd, heldChecks, heldRefusal, holding, counting}
+use Rattle.campaign_slices.specs.Scans.{writtenOr}
+use Rattle.campaign_slices.specs.Racks.{noPlan, planFrom, bytesOf, lentRefusal, priceRefusal, countRefusal, atChecks, atRefusal, holdRefusal, cellsTold, cellsPriced, priced, counted, steppedAt, held}
+use Rattle.tape_spec.proofs.Filling.{joined}
 use Rattle.campaign_slices.proofs.Laws.{one-more, left-alone}
 
 -- ---- copies
@@ -60,19 +63,61 @@ module _ (small lengths : List ℕ) where
     unfolding planFrom
     plan-is k l o e el eo ee = rw (eq-eqb (length small) 18 h, eq-eqb (length lengths) 8 k, el, eo, ee)
 
+-- and back
+pub put-length : (s o e : List ℕ) (a b : ℕ) → length (sets (sets (set (set s 0 a) 1 b) 2 o) 10 e) ≡ length s
+put-length s o e a b =
+    length-sets (sets (set (set s 0 a) 1 b) 2 o) 10 e ∙ length-sets (set (set s 0 a) 1 b) 2 o ∙ length-set (set s 0 a) 1 b ∙ length-set s 0 a
+
+module _ (q : Plan) (eight : length (q .order) ≡ 8) (cut : length (q .exponents) ≡ 8) where
+  pub put-is : (s : List ℕ) → length s ≡ 18 → sets (sets (set (set s 0 (q .axes)) 1 (q .p)) 2 (q .order)) 10 (q .exponents) ≡ bytesOf q
+  unfolding bytesOf
+  put-is s h =
+      let l = length-append (q .order) (q .exponents) in
+      let j = joined (set (set s 0 (q .axes)) 1 (q .p)) 2 (q .order) (q .exponents) in
+      let n : 2 + length (q .order) ≡ 10 = omega arith in
+      rw n at (sym j) ∙ all s (q .axes ∷ q .p ∷ (q .order ++ q .exponents)) (omega arith)
+
+  -- what is put is the plan that is taken
+  pub taken-back : length (q .lengths) ≡ 8 → planFrom (bytesOf q) (q .lengths) ≡ q
+  unfolding bytesOf planFrom
+  taken-back k =
+      let l = length-append (q .order) (q .exponents) in
+      let n : suc (suc (length (q .order ++ q .exponents))) ≡ 18 = omega arith in
+      let a : take 8 (q .order ++ q .exponents) ≡ q .order = ap (λ i. take i (q .order ++ q .exponents)) (sym eight) ∙ take-append-seam (q .order) (q .exponents) in
+      let b : drop 8 (q .order ++ q .exponents) ≡ q .exponents = ap (λ i. drop i (q .order ++ q .exponents)) (sym eight) ∙ drop-append-seam (q .order) (q .exponents) in
+      let c : take 8 (q .exponents) ≡ q .exponents = take-all 8 (q .exponents) (omega arith) in
+      rw (eq-eqb (suc (suc (length (q .order ++ q .exponents)))) 18 n, eq-eqb (length (q .lengths)) 8 k, a, b, c)
+
+pub two-cells : (s : List ℕ) (a b : ℕ) → length s ≡ 2 → set (set s 0 a) 1 b ≡ a ∷ b ∷ []
+two-cells [] a b h = absurd (omega arith)
+two-cells (x ∷ []) a b h = absurd (omega arith)
+two-cells (x ∷ y ∷ []) a b h = refl
+two-cells (x ∷ y ∷ z ∷ s) a b h = absurd (omega arith)
+
+pub three-cells : (s : List ℕ) (a b c : ℕ) → length s ≡ 3 → set (set (set s 0 a) 1 b) 2 c ≡ a ∷ b ∷ c ∷ []
+three-cells [] a b c h = absurd (omega arith)
+three-cells (x ∷ []) a b c h = absurd (omega arith)
+three-cells (x ∷ y ∷ []) a b c h = absurd (omega arith)
+three-cells (x ∷ y ∷ z ∷ []) a b c h = refl
+three-cells (x ∷ y ∷ z ∷ w ∷ s) a b c h = absurd (omega arith)
+
 -- ---- the refusals
 
 held-numbered : (q : Plan) (at b : ℕ) → Numbered (heldChecks q at b)
 unfolding heldChecks planChecks lengthChecks
 held-numbered q at b = (omega arith, (omega arith, (omega arith, (omega arith, (omega arith, (omega arith, (omega arith, tt)))))))
 
+at-numbered : (q : Plan) (at : ℕ) → Numbered (atChecks q at)
+unfolding atChecks planChecks lengthChecks
+at-numbered q at = (omega arith, (omega arith, (omega arith, (omega arith, (omega arith, (omega arith, (omega arith, tt)))))))
+
 -- what an answer says of the refusal
-given-is : (n a v : ℕ) → gives v ≡ answered n a → (n ≡ 0) × (v ≡ a)
+given-is : {A : Type 0} (n : ℕ) (a v : A) → gives v ≡ answered n a → (n ≡ 0) × (v ≡ a)
 unfolding answered
 given-is zero a v e = (refl, cc)
 given-is (suc n) a v e = absurd (let z : _≡_ {A = ℕ} 0 1 = cc in omega arith)
 
-refused-is : (n a k : ℕ) → refuses k ≡ answered n a → (k ≡ n) × (k ≡ 0 → ⊥)
+refused-is : {A : Type 0} (n : ℕ) (a : A) (k : ℕ) → refuses k ≡ answered n a → (k ≡ n) × (k ≡ 0 → ⊥)
 unfolding answered
 refused-is zero a k e = absurd (let z : _≡_ {A = ℕ} 0 1 = cc in omega arith)
 refused-is (suc n) a k e = let q : k ≡ suc n = cc in (q, λ z. omega arith)
@@ -138,13 +183,44 @@ module _ (g q : Plan) (e : g ≡ q) (s : List ℕ) where
       let a = refused-is (first (heldChecks q at b)) (Held.held (planGrid q) at b) k (h ∙ ap (λ x. holding x at b) e) in
       refused (heldChecks q at b) 1 s k (a .0) (a .1) _
 
-  pub step-refused : (at k : ℕ) → k ≡ planRefusal g → (k ≡ 0 → ⊥) → (k ≡ stepRefusal q (length s)) × (s ≡ stepped q at s)
-  unfolding planRefusal stepRefusal stepped
-  step-refused at k h z = refused (planChecks q) 5 s k (h ∙ ap planRefusal e) z _
+  pub price-refused : (k : ℕ) → refuses k ≡ pricing g → (k ≡ priceRefusal q (length s)) × (s ≡ priced q s)
+  unfolding pricing planRefusal priceRefusal priced
+  price-refused k h =
+      let a = refused-is (first (planChecks q)) (pricesOf (listsOf q)) k (h ∙ ap pricing e) in
+      refused (planChecks q) 3 s k (a .0) (a .1) _
 
-  pub step-given : (at r : ℕ) (t : Told) (w : List ℕ) → planRefusal g ≡ 0 → t ≡ toldAt (planGrid g) (steps (planGrid g)) at
-      → r ≡ lentRefusal [] 5 (length s) → w ≡ writtenOr r (cellsTold t) s → (r ≡ stepRefusal q (length s)) × (w ≡ stepped q at s)
-  unfolding planRefusal stepRefusal stepped
-  step-given at r t w h et er ew =
-      let q′ = et ∙ ap (λ x. toldAt (planGrid x) (steps (planGrid x)) at) e in
-      passed (planChecks q) 5 s (plan-numbered q) (sym (ap planRefusal e) ∙ h) r _ w er (ew ∙ ap (λ x. writtenOr r (cellsTold x) s) q′)
+  pub price-given : (r : ℕ) (w : List ℕ) (c : Prices) → gives c ≡ pricing g → r ≡ lentRefusal [] 3 (length s) → w ≡ writtenOr r (cellsPriced c) s
+      → (r ≡ priceRefusal q (length s)) × (w ≡ priced q s)
+  unfolding pricing planRefusal priceRefusal priced
+  price-given r w c h er ew =
+      let a = given-is (first (planChecks q)) (pricesOf (listsOf q)) c (h ∙ ap pricing e) in
+      passed (planChecks q) 3 s (plan-numbered q) (a .0) r _ w er (ew ∙ ap (λ (x : Prices). writtenOr r (cellsPriced x) s) (a .1))
+
+  -- the step at a position: the plan's refusal, a position past the end, and one that is not
+  module _ (at : ℕ) where
+    pub at-refused : (k : ℕ) → k ≡ planRefusal g → (k ≡ 0 → ⊥) → (k ≡ atRefusal q at (length s)) × (s ≡ steppedAt q at s)
+    unfolding atChecks atRefusal steppedAt
+    at-refused k h z =
+        let due = plan-due q (check 12 (pastEnd (listsOf q) at) ∷ []) (λ y. z (h ∙ ap planRefusal e ∙ y)) in
+        refused (atChecks q at) 5 s k (h ∙ ap planRefusal e ∙ sym due) z _
+
+    module _ (h : planRefusal g ≡ 0) where
+      at-first : first (atChecks q at) ≡ first (check 12 (pastEnd (listsOf q) at) ∷ [])
+      unfolding atChecks
+      at-first = plan-passed q _ (sym (ap planRefusal e) ∙ h)
+
+      pub at-past : stepCount (listsOf g) < at → (12 ≡ atRefusal q at (length s)) × (s ≡ steppedAt q at s)
+      unfolding atRefusal steppedAt first pastEnd
+      at-past l =
+          let p : stepCount (listsOf q) < at = rw (← e) l in
+          let f : 12 ≡ first (atChecks q at) = rw (at-first, lt-ltb (stepCount (listsOf q)) at p) refl in
+          refused (atChecks q at) 5 s 12 f (λ z. omega arith) _
+
+      pub at-given : at ≤ stepCount (listsOf g) → (r : ℕ) (t : Told) (w : List ℕ) → t ≡ toldAt (planGrid g) (steps (planGrid g)) at
+          → r ≡ lentRefusal [] 5 (length s) → w ≡ writtenOr r (cellsTold t) s → (r ≡ atRefusal q at (length s)) × (w ≡ steppedAt q at s)
+      unfolding atRefusal steppedAt first pastEnd
+      at-given l r t w et er ew =
+          let q′ = et ∙ ap (λ x. toldAt (planGrid x) (steps (planGrid x)) at) e in
+          let p : at ≤ stepCount (listsOf q) = rw (← e) l in
+          let f : first (atChecks q at) ≡ 0 = rw (at-first, le-ltb (stepCount (listsOf q)) at p) refl in
+          passed (atChecks q at) 5 s (at-numbered q at) f r _ w er (ew ∙ ap (λ x. writtenOr r (cellsTold x) s) q′)

@@ -1,3 +1,3 @@
-pub mod Probing
+pub mod Scans
 pub mod Racks
 pub mod Computing

@@ -1,4 +1,4 @@
--- T, the step at a position and held as the probe hands them out: the plan that two slices hold, the refusals, and the cells that are written.
+-- Prices, T, the step at a position and held as a caller in C gets them: the plan that two slices hold, the refusals, and the cells that are written.
 use Prim.Native.Nat.{ℕ}
 use mathlib.Core.Bool.{_&&_, not}
 use mathlib.Core.List.{List, [], _∷_, _++_}
@@ -7,13 +7,15 @@ use lib.ListN.{length, getD, take, drop}
 use Rattle.cube_spec.specs.Boxes.{pick}
 use Rattle.cube_spec.specs.Checks.{Check, check, first}
 use Rattle.plan_spec.specs.declared.types.Plan.{Plan}
+use Rattle.plan_spec.specs.declared.types.Prices.{Prices}
 use Rattle.plan_spec.specs.Plans.{stepCount, listsOf, slotted}
 use Rattle.plan_spec.specs.Refusals.{planChecks}
+use Rattle.plan_spec.specs.Answers.{pricesOf}
 use Rattle.rack_spec.specs.Steps.{steps}
 use Rattle.rack_spec.specs.Held as Held
 use Rattle.rack_spec.specs.Finding.{planGrid}
-use Rattle.rack_spec.specs.Answers.{Told, expands, transfers, finishes, done, refused, toldAt, heldChecks}
-use Rattle.campaign_slices.specs.Probing.{writtenOr}
+use Rattle.rack_spec.specs.Answers.{Told, expands, transfers, finishes, done, refused, toldAt, pastEnd, heldChecks}
+use Rattle.campaign_slices.specs.Scans.{writtenOr}
 
 -- ---- the plan
 
@@ -29,6 +31,10 @@ planFrom small lengths =
     (record { axes = getD small 0 0; p = getD small 1 0; lengths = lengths; order = take 8 (drop 2 small); exponents = take 8 (drop 10 small) })
     noPlan
 
+-- and back: the first slice of a plan; its lengths are the second
+unfoldable pub bytesOf : Plan → List ℕ
+bytesOf q = q .axes ∷ q .p ∷ (q .order ++ q .exponents)
+
 -- ---- the refusals
 
 -- some checks, and then 13 for "a lent result slice has the wrong length": `lent` cells where `due` are to be written
@@ -38,8 +44,15 @@ lentRefusal checks due lent = first (checks ++ (check 13 (not (eqb lent due)) �
 unfoldable pub countRefusal : Plan → ℕ → ℕ
 countRefusal q lent = lentRefusal (planChecks q) 1 lent
 
-unfoldable pub stepRefusal : Plan → ℕ → ℕ
-stepRefusal q lent = lentRefusal (planChecks q) 5 lent
+unfoldable pub priceRefusal : Plan → ℕ → ℕ
+priceRefusal q lent = lentRefusal (planChecks q) 3 lent
+
+-- the step at a position: 3 to 6, 8, 9, and 12 for "The position is over T"
+unfoldable pub atChecks : Plan → ℕ → List Check
+atChecks q at = planChecks q ++ (check 12 (pastEnd (listsOf q) at) ∷ [])
+
+unfoldable pub atRefusal : Plan → ℕ → ℕ → ℕ
+atRefusal q at lent = lentRefusal (atChecks q at) 5 lent
 
 unfoldable pub holdRefusal : Plan → ℕ → ℕ → ℕ → ℕ
 holdRefusal q at b lent = lentRefusal (heldChecks q at b) 1 lent
@@ -52,15 +65,22 @@ cellsTold (expands m) = 1 ∷ 0 ∷ 0 ∷ m ∷ 0 ∷ []
 cellsTold (transfers s r m n) = 2 ∷ s ∷ r ∷ m ∷ n ∷ []
 cellsTold (finishes m) = 3 ∷ 0 ∷ 0 ∷ m ∷ 0 ∷ []
 cellsTold done = 4 ∷ 0 ∷ 0 ∷ 0 ∷ 0 ∷ []
--- no step of a list is told so
+-- never handed out: a refusal is the answer of a call, and no cell is written
 cellsTold (refused n) = 5 ∷ 0 ∷ 0 ∷ 0 ∷ n ∷ []
 
+-- prices: the values moved, the cells added up, A
+abbrev pub cellsPriced : Prices → List ℕ
+cellsPriced c = c .moved ∷ c .added ∷ c .share ∷ []
+
 -- the lent slice afterwards: the cells, or as it was on a refusal
+unfoldable pub priced : Plan → List ℕ → List ℕ
+priced q out = writtenOr (priceRefusal q (length out)) (cellsPriced (pricesOf (listsOf q))) out
+
 unfoldable pub counted : Plan → List ℕ → List ℕ
 counted q out = writtenOr (countRefusal q (length out)) (stepCount (listsOf q) ∷ []) out
 
-unfoldable pub stepped : Plan → ℕ → List ℕ → List ℕ
-stepped q at out = writtenOr (stepRefusal q (length out)) (cellsTold (toldAt (planGrid q) (steps (planGrid q)) at)) out
+unfoldable pub steppedAt : Plan → ℕ → List ℕ → List ℕ
+steppedAt q at out = writtenOr (atRefusal q at (length out)) (cellsTold (toldAt (planGrid q) (steps (planGrid q)) at)) out
 
 unfoldable pub held : Plan → ℕ → ℕ → List ℕ → List ℕ
 held q at b out = writtenOr (holdRefusal q at b (length out)) (Held.held (planGrid q) at b ∷ []) out

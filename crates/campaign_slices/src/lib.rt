@@ -1,4 +1,4 @@
-// Plans, steps and numbers in slices that a test program lends. A plan comes in two: the axes, p, the order's slots and the exponents' in one,
+// Plans, steps and numbers in slices that a caller in C lends. A plan comes in two: the axes, p, the order's slots and the exponents' in one,
 // the lengths' slots in the other.
 ghost use mathlib.Core.Path.{_≡_};
 ghost use mathlib.Core.List.{[], _∷_};
@@ -6,9 +6,10 @@ ghost use Prim.Native.Nat.{_+_, _≤_};
 ghost use lib.ListN.{length, take, drop};
 ghost use lib.Seq.{sets};
 ghost use Rattle.rack_spec.specs.Answers.{told};
-ghost use Rattle.campaign_slices.specs.Probing.{cells, writtenOr};
-ghost use Rattle.campaign_slices.specs.Racks.{noPlan, planFrom, lentRefusal, cellsTold};
+ghost use Rattle.campaign_slices.specs.Scans.{cells, writtenOr};
+ghost use Rattle.campaign_slices.specs.Racks.{noPlan, planFrom, bytesOf, lentRefusal, cellsTold, cellsPriced};
 use plan_spec::types::Plan;
+use plan_spec::types::Prices;
 use rack_spec::types::Step;
 
 // Puts the lengths in the cells from 3 on.
@@ -131,5 +132,67 @@ pub fn put_number(out: &mut [u64], n: u64) -> u8
         return 13;
     }
     out[0] = n;
+    0
+}
+
+// Puts eight bytes in a slice, from a place on.
+fn put_bytes(out: &mut [u8], at: usize, slots: [u8; 8])
+    requires { ⌜ at + 8 ≤ length (now out) ⌝ }
+    ensures { λ _. ⌜ now (out .exit) ≡ sets (now (out .entry)) at slots ⌝ }
+{
+    for i in 0..8 {
+        out[at + i] = slots[i];
+    }
+}
+
+// Puts eight lengths in a slice of as many.
+fn put_lengths(out: &mut [u32], slots: [u32; 8])
+    requires { ⌜ length (now out) ≡ 8 ⌝ }
+    ensures { λ _. ⌜ now (out .exit) ≡ slots ⌝ }
+{
+    for i in 0..8 {
+        out[i] = slots[i];
+    }
+}
+
+// Puts a plan in two slices, as `plan_from` takes it.
+pub fn put_plan(small: &mut [u8], lengths: &mut [u32], plan: Plan)
+    requires { ⌜ (length (now small) ≡ 18) × (length (now lengths) ≡ 8) ⌝ }
+    ensures { λ _. ⌜ (now (small .exit) ≡ bytesOf plan) × (now (lengths .exit) ≡ plan .lengths) ⌝ }
+{
+    let order = plan.order;
+    let exponents = plan.exponents;
+    let slots = plan.lengths;
+    small[0] = plan.axes;
+    small[1] = plan.p;
+    put_bytes(small, 2, order);
+    put_bytes(small, 10, exponents);
+    put_lengths(lengths, slots);
+}
+
+// Puts prices in a slice of three cells.
+pub fn put_prices(out: &mut [u64], prices: Prices) -> u8
+    ensures { λ r. ⌜ (r ≡ lentRefusal [] 3 (length (now (out .entry))))
+        × (now (out .exit) ≡ writtenOr r (cellsPriced prices) (now (out .entry))) ⌝ }
+{
+    if out.len() != 3 {
+        return 13;
+    }
+    out[0] = prices.moved;
+    out[1] = prices.added;
+    out[2] = prices.share;
+    0
+}
+
+// Puts two numbers in a slice of two cells.
+pub fn put_pair(out: &mut [u64], a: u64, b: u64) -> u8
+    ensures { λ r. ⌜ (r ≡ lentRefusal [] 2 (length (now (out .entry))))
+        × (now (out .exit) ≡ writtenOr r (a ∷ b ∷ []) (now (out .entry))) ⌝ }
+{
+    if out.len() != 2 {
+        return 13;
+    }
+    out[0] = a;
+    out[1] = b;
     0
 }

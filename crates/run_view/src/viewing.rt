@@ -1,8 +1,14 @@
 // The entries that show a board's cells of a finished choice.
 ghost use mathlib.Core.Path.{_≡_};
-ghost use Prim.Native.Nat.{ℕ, _≤_};
+ghost use Prim.Native.Nat.{ℕ, _+_, _*_, _^_, _≤_, _<_};
 ghost use lib.ListN.{length};
+ghost use Rattle.plan_spec.specs.Plans.{listsOf, boardCount};
+ghost use Rattle.plan_spec.specs.Refusals.{planRefusal};
+ghost use Rattle.rack_spec.specs.Grids.{boards, share};
+ghost use Rattle.rack_spec.specs.Finding.{planGrid};
 ghost use Rattle.run_spec.specs.Entries.{viewRefusal, viewing};
+ghost use Rattle.run_view.specs.Places.{partOf};
+use crate::types::Part;
 use plan_check::plan_refusal;
 use plan_spec::types::Plan;
 use rack_count::counts::steps_of;
@@ -39,6 +45,24 @@ pub fn view_refusal(plan: Plan, work: &[i64], position: u64, board: u32) -> u8
     0
 }
 
+// Where a board's cells of the choice that the position finishes stand in the work area: no cells for a board that is no lead.
+pub fn part_of(plan: Plan, position: u64, board: u32) -> Part
+    requires { ⌜ (planRefusal plan ≡ 0) × (board < boardCount (listsOf plan)) ⌝ }
+    ensures { λ r. ⌜ (r ≡ partOf (planGrid plan) position board) × (r .start + r .cells ≤ boards (planGrid plan) * share (planGrid plan)) × (r .start + r .cells < 2 ^ 39) ⌝ }
+{
+    let Step::Finish(choice) = step_before(plan, position) else {
+        return Part { start: 0, cells: 0 };
+    };
+    let b = board as u64;
+    if is_lead(plan, choice, b) {
+        let next = next_of(plan, choice);
+        let start = region_at(plan, b, next - 1);
+        let cells = cells_of(plan, choice, b);
+        return Part { start, cells };
+    }
+    Part { start: 0, cells: 0 }
+}
+
 // A board's cells of the choice that the position finishes, as a part of the work area itself: empty on a refusal, and for a board that is no lead.
 pub fn view(plan: Plan, work: &[i64], position: u64, board: u32) -> &[i64]
     ensures { λ r. ⌜ now r ≡ viewing plan (now (work .entry)) position board ⌝ }
@@ -47,29 +71,8 @@ pub fn view(plan: Plan, work: &[i64], position: u64, board: u32) -> &[i64]
     if refusal != 0 {
         return &work[..0];
     }
-    match step_before(plan, position) {
-        Step::Finish(choice) => {
-            let b = board as u64;
-            if is_lead(plan, choice, b) {
-                let next = next_of(plan, choice);
-                let start = region_at(plan, b, next - 1) as usize;
-                let count = cells_of(plan, choice, b) as usize;
-                let end = start + count;
-                return &work[start..end];
-            }
-            return &work[..0];
-        }
-        Step::Expand(_) => {
-            return &work[..0];
-        }
-        Step::Transfer(_) => {
-            return &work[..0];
-        }
-        Step::Done => {
-            return &work[..0];
-        }
-        Step::Refused(_) => {
-            return &work[..0];
-        }
-    }
+    let part = part_of(plan, position, board);
+    let start = part.start as usize;
+    let end = start + part.cells as usize;
+    &work[start..end]
 }

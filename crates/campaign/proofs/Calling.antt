@@ -1,0 +1,206 @@
+-- Laws of what planning, step, view and gather leave in what a caller in C lends.
+use Prim.Native.Nat.{ℕ, zero, suc, _≤_, _<_}
+use mathlib.Core.Path.{_≡_, refl, sym, ap, _∙_}
+use mathlib.Core.Bool.{Bool, true, false, _||_, not}
+use mathlib.Core.List.{List, [], _∷_, _++_}
+use native.Mathlib.Omega.{arith}
+use borrow.Author.Tests.{eq-eqb, ne-eqb, eqb-true, eqb-false}
+use lib.Dec.{eqb}
+use lib.ListN.{length, take, drop}
+use lib.IntN.{ℤ}
+use Rattle.cube_spec.specs.Checks.{check, first}
+use Rattle.plan_spec.specs.declared.types.Plan.{Plan}
+use Rattle.plan_spec.specs.declared.types.Prices.{Prices}
+use Rattle.plan_spec.specs.declared.types.Planned.{Planned}
+use Rattle.plan_spec.specs.Plans.{PlanLists, slotted}
+use Rattle.plan_spec.specs.Rule.{planOf}
+use Rattle.plan_spec.specs.Refusals.{planChecks, lengthChecks, planningChecks, planningRefusal, planRefusal}
+use Rattle.plan_spec.specs.Answers.{plannedAs, planning}
+use Rattle.plan_spec.proofs.Accepting.{padded-length, planning-accepted, planned-accepted}
+use Rattle.plan_spec.proofs.Demand.{plan-sound}
+use Rattle.cube_spec.proofs.Sums.{by}
+use Rattle.rack_spec.proofs.Refusing.{Numbered, first-due, first-passed}
+use Rattle.rack_spec.specs.Finding.{planGrid}
+use Rattle.rack_spec.specs.Answers.{Told}
+use Rattle.run_spec.specs.Entries.{Outcome, outcome, stepChecks, stepRefusal, stepping, viewChecks, viewRefusal, viewing, gatherRefusal, gathering}
+use Rattle.run_view.specs.declared.types.Part.{Part}
+use Rattle.run_view.specs.Places.{partOf}
+use Rattle.run_view.proofs.Placed.{shown-part}
+use Rattle.campaign_slices.specs.Scans.{writtenOr}
+use Rattle.campaign_slices.specs.Racks.{planFrom, bytesOf, lentRefusal, cellsTold, cellsPriced}
+use Rattle.campaign_slices.proofs.Racking as racking
+use Rattle.campaign.specs.Calls.{wrongSlices, makeRefusal, Made, made, madeOr, making, runRefusal, Ran, ran, ranOr, running, cellsPart, partRefusal, parting}
+
+-- ---- planning
+
+module _ (ds : List ℕ) (p : ℕ) (small slots prices : List ℕ) where
+  planning-numbered : Numbered (planningChecks ds p)
+  unfolding planningChecks lengthChecks
+  planning-numbered = (omega arith, (omega arith, (omega arith, (omega arith, (omega arith, tt)))))
+
+  -- the refusal that stands in the answer of planning is planning's
+  answered-is : (n : ℕ) (a : PlanLists) → plannedAs n a .refusal ≡ n
+  unfolding plannedAs
+  answered-is zero a = refl
+  answered-is (suc n) a = refl
+
+  module _ (f : Planned) (e : f ≡ planning ds p) where
+    refusal-is : f .refusal ≡ planningRefusal ds p
+    unfolding planning
+    refusal-is = ap (λ (x : Planned). x .refusal) e ∙ answered-is _ _
+
+    left : (n : ℕ) (a : Planned) → (n ≡ 0 → ⊥) → made n small slots prices ≡ madeOr n a small slots prices
+    unfolding madeOr
+    left zero a h = absurd (h refl)
+    left (suc n) a h = refl
+
+    pub make-refused : (f .refusal ≡ 0 → ⊥) → made (f .refusal) small slots prices ≡ making ds p small slots prices
+    unfolding making makeRefusal planningRefusal
+    make-refused h =
+        let due = first-due (planningChecks ds p) (check 13 (wrongSlices (length small) (length slots) (length prices)) ∷ []) (λ z. h (refusal-is ∙ z)) in
+        left (f .refusal) (planning ds p) h ∙ ap (λ n. madeOr n (planning ds p) small slots prices) (refusal-is ∙ sym due)
+
+    module _ (h : f .refusal ≡ 0) where
+      due-is : (t : Bool) → wrongSlices (length small) (length slots) (length prices) ≡ t → first (check 13 t ∷ []) ≡ makeRefusal ds p (length small) (length slots) (length prices)
+      unfolding makeRefusal planningRefusal
+      due-is t w =
+          let q = first-passed (planningChecks ds p) (check 13 (wrongSlices (length small) (length slots) (length prices)) ∷ []) planning-numbered (sym refusal-is ∙ h) in
+          sym (q ∙ ap (λ (u : Bool). first (check 13 u ∷ [])) w)
+
+      wrong : wrongSlices (length small) (length slots) (length prices) ≡ true → made 13 small slots prices ≡ making ds p small slots prices
+      unfolding making first
+      wrong w = left 13 (planning ds p) (λ z. omega arith) ∙ ap (λ n. madeOr n (planning ds p) small slots prices) (due-is true w)
+
+      pub wrong-small : (length small ≡ 18 → ⊥) → made 13 small slots prices ≡ making ds p small slots prices
+      unfolding wrongSlices
+      wrong-small l = wrong (rw (ne-eqb (length small) 18 l) refl)
+
+      module _ (s : length small ≡ 18) where
+        pub wrong-slots : (length slots ≡ 8 → ⊥) → made 13 small slots prices ≡ making ds p small slots prices
+        unfolding wrongSlices
+        wrong-slots l = wrong (rw (eq-eqb (length small) 18 s, ne-eqb (length slots) 8 l) refl)
+
+        module _ (t : length slots ≡ 8) where
+          pub wrong-prices : (length prices ≡ 3 → ⊥) → made 13 small slots prices ≡ making ds p small slots prices
+          unfolding wrongSlices
+          wrong-prices l = wrong (rw (eq-eqb (length small) 18 s, eq-eqb (length slots) 8 t, ne-eqb (length prices) 3 l) refl)
+
+          pub make-given : length prices ≡ 3 → (r : ℕ) (a b c : List ℕ) → a ≡ bytesOf (f .plan) → b ≡ f .plan .lengths
+              → r ≡ lentRefusal [] 3 (length prices) → c ≡ writtenOr r (cellsPriced (f .prices)) prices → made r a b c ≡ making ds p small slots prices
+          unfolding making madeOr wrongSlices lentRefusal writtenOr first
+          make-given l r a b c ea eb er ec =
+              let z : r ≡ 0 = er ∙ rw (eq-eqb (length prices) 3 l) refl in
+              let k : c ≡ cellsPriced (f .prices) = rw z at ec in
+              let w : wrongSlices (length small) (length slots) (length prices) ≡ false = rw (eq-eqb (length small) 18 s, eq-eqb (length slots) 8 t, eq-eqb (length prices) 3 l) refl in
+              let d = due-is false w in
+              rw (z, ea, eb, k, e) (ap (λ n. madeOr n (planning ds p) small slots prices) d)
+
+-- ---- the entries, of the plan q in the slices
+
+module _ (g q : Plan) (e : g ≡ q) where
+  module _ (array work : List ℤ) (at : ℕ) (step : List ℕ) where
+    step-numbered : Numbered (stepChecks q (length array) (length work) at)
+    unfolding stepChecks planChecks lengthChecks
+    step-numbered = (omega arith, (omega arith, (omega arith, (omega arith, (omega arith, (omega arith, (omega arith, (omega arith, (omega arith, tt)))))))))
+
+    kept : (n : ℕ) (o : Outcome) → (n ≡ 0 → ⊥) → ran n work at step ≡ ranOr n o work at step
+    unfolding ranOr
+    kept zero o h = absurd (h refl)
+    kept (suc n) o h = refl
+
+    module _ (k : ℕ) (ek : k ≡ stepRefusal g (length array) (length work) at) where
+      first-is : k ≡ first (stepChecks q (length array) (length work) at)
+      unfolding stepRefusal
+      first-is = ek ∙ ap (λ x. stepRefusal x (length array) (length work) at) e
+
+      pub run-refused : (k ≡ 0 → ⊥) → ran k work at step ≡ running q array work at step
+      unfolding running runRefusal
+      run-refused h =
+          let d = racking.refused (stepChecks q (length array) (length work) at) 5 step k first-is h [] in
+          kept k (stepping q array work at) h ∙ ap (λ n. ranOr n (stepping q array work at) work at step) (d .0)
+
+      module _ (h : k ≡ 0) where
+        given : (r : ℕ) → r ≡ lentRefusal [] 5 (length step) → r ≡ runRefusal q (length array) (length work) at (length step)
+        unfolding runRefusal lentRefusal
+        given r er = er ∙ sym (first-passed (stepChecks q (length array) (length work) at) _ step-numbered (sym first-is ∙ h))
+
+        -- with a slice of another length no step is taken
+        pub not-run : (length step ≡ 5 → ⊥) → ran 13 work at step ≡ running q array work at step
+        unfolding running
+        not-run l =
+            let d = given 13 (racking.wrong 5 step [] l .0) in
+            kept 13 (stepping q array work at) (λ z. omega arith) ∙ ap (λ n. ranOr n (stepping q array work at) work at step) d
+
+        pub run : length step ≡ 5 → (t : Told) (w : List ℤ) (to r : ℕ) (o : List ℕ) → outcome t w to ≡ stepping g array work at
+            → r ≡ lentRefusal [] 5 (length step) → o ≡ writtenOr r (cellsTold t) step → ran r w to o ≡ running q array work at step
+        unfolding running ranOr writtenOr
+        run l t w to r o es er eo =
+            let z : r ≡ 0 = er ∙ sym (racking.right 5 step [] l [] refl .0) in
+            let c : o ≡ cellsTold t = rw z at eo in
+            let d : 0 ≡ runRefusal q (length array) (length work) at (length step) = sym z ∙ given r er in
+            let s : outcome t w to ≡ stepping q array work at = es ∙ ap (λ x. stepping x array work at) e in
+            rw (z, c) (ap (λ (x : Outcome). ran 0 (x .work) (x .position) (cellsTold (x .says))) s ∙ ap (λ n. ranOr n (stepping q array work at) work at step) d)
+
+  module _ (work at b : ℕ) where
+    view-numbered : Numbered (viewChecks q work at b)
+    unfolding viewChecks planChecks lengthChecks
+    view-numbered = (omega arith, (omega arith, (omega arith, (omega arith, (omega arith, (omega arith, (omega arith, (omega arith, tt))))))))
+
+    module _ (part : List ℕ) (k : ℕ) (ek : k ≡ viewRefusal g work at b) where
+      pub part-refused : (k ≡ 0 → ⊥) → (k ≡ partRefusal q work at b (length part)) × (part ≡ parting q work at b part)
+      unfolding viewRefusal partRefusal parting
+      part-refused h = racking.refused (viewChecks q work at b) 2 part k (ek ∙ ap (λ x. viewRefusal x work at b) e) h _
+
+      pub part-given : k ≡ 0 → (s : Part) → s ≡ partOf (planGrid g) at b → (r : ℕ) (w : List ℕ) → r ≡ lentRefusal [] 2 (length part)
+          → w ≡ writtenOr r (cellsPart s) part → (r ≡ partRefusal q work at b (length part)) × (w ≡ parting q work at b part)
+      unfolding viewRefusal partRefusal parting
+      part-given h s es r w er ew =
+          let same : s ≡ partOf (planGrid q) at b = es ∙ ap (λ x. partOf (planGrid x) at b) e in
+          let none : first (viewChecks q work at b) ≡ 0 = sym (ek ∙ ap (λ x. viewRefusal x work at b) e) ∙ h in
+          racking.passed (viewChecks q work at b) 2 part view-numbered none r _ w er (ew ∙ ap (λ (x : Part). writtenOr r (cellsPart x) part) same)
+
+  pub gather-is : (work result w : List ℤ) (at r : ℕ) → (r ≡ gatherRefusal g (length work) at (length result)) × (w ≡ gathering g work at result)
+      → (r ≡ gatherRefusal q (length work) at (length result)) × (w ≡ gathering q work at result)
+  gather-is work result w at r a = rw e at a
+
+-- ---- what a caller may build on
+
+-- what planning writes is taken back as the planner's own plan, which no check of a plan refuses
+module _ (ds : List ℕ) (p : ℕ) where
+  plan-of : (n : ℕ) (a : PlanLists) → n ≡ 0 → plannedAs n a .plan ≡ slotted a
+  unfolding plannedAs
+  plan-of zero a e = refl
+  plan-of (suc n) a e = absurd (omega arith)
+
+  pub made-plan : planningRefusal ds p ≡ 0 → planFrom (bytesOf (planning ds p .plan)) (planning ds p .plan .lengths) ≡ slotted (planOf ds p)
+  unfolding planning slotted planOf
+  made-plan e =
+      let ok = planning-accepted ds p e in
+      let few = ok .lengths .few in
+      let sound = plan-sound ds p (ok .lengths .some) (ok .enough) in
+      let o = sound .places in
+      let k = sound .each in
+      rw (plan-of (planningRefusal ds p) (planOf ds p) e)
+      (racking.taken-back (slotted (planOf ds p)) (padded-length (planOf ds p .order) (omega arith)) (padded-length (planOf ds p .exponents) (omega arith)) (padded-length ds few))
+
+  module _ (small slots prices : List ℕ) where
+    passes : makeRefusal ds p (length small) (length slots) (length prices) ≡ 0 → planningRefusal ds p ≡ 0
+    unfolding makeRefusal planningRefusal
+    passes z =
+        by (eqb (first (planningChecks ds p)) 0)
+        (λ t. eqb-true _ 0 t)
+        (λ t. let ne = eqb-false (first (planningChecks ds p)) 0 t in absurd (ne (sym (first-due (planningChecks ds p) _ ne) ∙ z)))
+
+    pub make-taken : makeRefusal ds p (length small) (length slots) (length prices) ≡ 0
+        → planFrom (making ds p small slots prices .small) (making ds p small slots prices .slots) ≡ slotted (planOf ds p)
+    unfolding making madeOr
+    make-taken z = rw z (made-plan (passes z))
+
+    pub make-accepted : makeRefusal ds p (length small) (length slots) (length prices) ≡ 0
+        → planRefusal (planFrom (making ds p small slots prices .small) (making ds p small slots prices .slots)) ≡ 0
+    make-accepted z = rw (make-taken z) (planned-accepted ds p (passes z))
+
+-- where view is not refused, the cells that it names in the caller's own area are those that the paper's view shows
+pub part-viewed : (q : Plan) (work : List ℤ) (at b : ℕ) → viewRefusal q (length work) at b ≡ 0
+    → take (partOf (planGrid q) at b .cells) (drop (partOf (planGrid q) at b .start) work) ≡ viewing q work at b
+part-viewed q work at b z = shown-part q work at b z

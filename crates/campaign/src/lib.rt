@@ -1,0 +1,6 @@
+// The engine as a library for C: every entry over slices and numbers. Each answers 0, or the first line of the paper's list that is due, and then nothing
+// that was lent is changed. A plan comes in two slices: its axes, p, order and exponents in eighteen bytes, and eight lengths.
+pub mod plans;
+pub mod racks;
+pub mod runs;
+pub mod tapes;

@@ -1,0 +1,65 @@
+// Planning and pricing, for C.
+ghost use mathlib.Core.Path.{_≡_};
+ghost use lib.ListN.{length};
+ghost use Rattle.controller.specs.Bytes.{controllerRefusal, written};
+ghost use Rattle.campaign_slices.specs.Racks.{planFrom, priceRefusal, priced};
+ghost use Rattle.campaign.specs.Calls.{made, making};
+use campaign_slices::plan_from;
+use campaign_slices::put_plan;
+use campaign_slices::put_prices;
+use plan_entry::planning::plan;
+use plan_price::pricing::price;
+use plan_spec::types::Priced;
+
+// Planning for a rack controller: lengths as 2-byte little-endian pairs and p. The result of 2n bytes gets the axis numbers and then the exponents,
+// both in plan order.
+#[no_mangle]
+pub extern "C" fn campaign_plan(lengths: &[u8], p: u8, result: &mut [u8]) -> u8
+    ensures { λ r. ⌜ (r ≡ controllerRefusal (now (lengths .entry)) p (length (now (result .entry))))
+        × (now (result .exit) ≡ written (now (lengths .entry)) p (now (result .entry))) ⌝ }
+{
+    controller::campaign_plan(lengths, p, result)
+}
+
+// Planning with prices: two slices get the plan, and three cells the values moved, the cells added up and A.
+#[no_mangle]
+pub extern "C" fn campaign_make(
+    lengths: &[u32],
+    p: u8,
+    small: &mut [u8],
+    slots: &mut [u32],
+    prices: &mut [u64],
+) -> u8
+    ensures { λ r. ⌜ made r (now (small .exit)) (now (slots .exit)) (now (prices .exit))
+        ≡ making (now (lengths .entry)) p (now (small .entry)) (now (slots .entry)) (now (prices .entry)) ⌝ }
+{
+    let found = plan(lengths, p);
+    if found.refusal != 0 {
+        return found.refusal;
+    }
+    if small.len() != 18 {
+        return 13;
+    }
+    if slots.len() != 8 {
+        return 13;
+    }
+    if prices.len() != 3 {
+        return 13;
+    }
+    let planned = found.plan;
+    let cost = found.prices;
+    put_plan(small, slots, planned);
+    put_prices(prices, cost)
+}
+
+// Pricing: three cells get the values moved, the cells added up and A.
+#[no_mangle]
+pub extern "C" fn campaign_price(small: &[u8], lengths: &[u32], prices: &mut [u64]) -> u8
+    ensures { λ r. ⌜ (r ≡ priceRefusal (planFrom (now (small .entry)) (now (lengths .entry))) (length (now (prices .entry))))
+        × (now (prices .exit) ≡ priced (planFrom (now (small .entry)) (now (lengths .entry))) (now (prices .entry))) ⌝ }
+{
+    match price(plan_from(small, lengths)) {
+        Priced::Given(cost) => put_prices(prices, cost),
+        Priced::Refused(n) => n,
+    }
+}

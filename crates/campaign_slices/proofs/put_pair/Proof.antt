@@ -1,0 +1,23 @@
+-- `slices::put_pair` meets its contract.
+use borrow.Author.Needs.{needs}
+use Rattle.campaign_slices.proofs.Racking as racking
+use Rattle.campaign_slices.proofs.put_pair.Tie as tie
+use Rattle.campaign_slices.proofs.put_pair.Statement.{statement}
+
+returns : tie.Need-returns
+returns c = let s = c .before in racking.wrong 2 (s .args .out .now) _ (c .if1 .taken)
+
+returns-2 : tie.Need-returns-2
+returns-2 c =
+    let s = c .before in
+    racking.right 2 (s .args .out .now) _ (c .if1 .left) _ (racking.two-cells (s .args .out .now) _ _ (c .if1 .left))
+
+pub put-pair-spec : {M : Type 1} → statement M
+put-pair-spec =
+    tie.close
+    (tie.spec
+    returns
+    (λ c. search needs)
+    (λ c. search needs)
+    (λ c. search needs)
+    returns-2)
