@@ -2,8 +2,10 @@
 """Checks that docs/PROMISES.md points to what is there.
 
 Each `crate/File.name` must be a name that specs/ or proofs/ of that crate declares in that file, each `crate/File` such a
-file, each other name in backquotes one that some file of the crates declares, and each crate/edit_name a must-fail edit;
-each edit must be named. Prints what is not so; exit status 1 if there is any.
+file. Each `crate/file` must be a file of code of that crate, and the names in backquotes that follow it, up to the next
+place or other text, functions, types or constants of it. Each other name in backquotes must be one that some file of the
+crates declares, and each crate/edit_name a must-fail edit; each edit must be named. Prints what is not so; exit status 1
+if there is any.
 """
 import pathlib
 import re
@@ -19,9 +21,21 @@ for file in root.glob('crates/*/*/**/*.antt'):
     crate = file.relative_to(root / 'crates').parts[0]
     declared.setdefault((crate, file.stem), set()).update(names)
 every = set().union(*declared.values())
+code = {}
 for file in root.glob('crates/*/src/*.rt'):
-    every |= set(re.findall(r'\b(\w+)\b', file.read_text(encoding='utf-8')))
+    body = file.read_text(encoding='utf-8')
+    every |= set(re.findall(r'\b(\w+)\b', body))
+    code[file.parts[-3], file.stem] = set(re.findall(r'\b(?:fn|struct|enum|const|impl) (\w+)', body))
+    code[file.parts[-3], file.stem] |= set(re.findall(r'^    (\w+)(?:\(.*\))?,$', body, re.M))  # the cases of an enum
 bad = []
+# a place in the code, and the names that follow it: `crate/file` `name`, `name` and `name`
+for crate, stem, names in re.findall(r'`([a-z_]+)/([a-z_]+)`((?:(?:,| and|, and)? `[A-Za-z]\w*(?:::\w+)?`(?!/))*)', text):
+    if (crate, stem) not in code:
+        bad.append(f'no code {crate}/{stem}')
+        continue
+    for name in re.findall(r'`([^`]+)`', names):
+        if not set(name.split('::')) <= code[crate, stem]:
+            bad.append(f'{stem}.rt of {crate} declares no {name}')
 for word in re.findall(r'`([^`]+)`', text):
     place = re.fullmatch(r'([a-z_]+)/([A-Z]\w*)(?:\.(\S+))?', word)
     if place:

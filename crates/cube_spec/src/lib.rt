@@ -1,1 +1,1 @@
-// Definitions and laws of choices, boxes and the tree; the code of choices is in `choices`.
+// Definitions and laws of choices, boxes and the tree; the code of choices is in `cube_choice`.

@@ -35,7 +35,7 @@ use Rattle.plan_entry.proofs.planning.plan.Reads as reads
 pub record Best (l : List ℕ) (p : ℕ) (r : Planned) : Type 0 where
   pub moved-least : (e : Division l p) (w : Way (length l)) → r .prices .moved ≤ movedBy l e w
   pub added-least : (w : Way (length l)) → r .prices .added ≤ addedBy l w
-  -- in the demand's own words, over exponents of any size that sum to p and give each of the 2^p boards a point: these are the divisions (boards/Divided)
+  -- in the demand's own words, over exponents of any size that sum to p and give each of the 2^p boards a point: these are the divisions (rack_spec/Divided)
   pub pointed-least : (c : Pointed l p) (w : Way (length l)) → r .prices .moved ≤ movedBy l (pointed-division c) w
   -- the returned plan's exponents are a division, and its tree is a way: a choice's parent has the last axis more, in the returned order, that the choice sums out
   pub division : Division l p

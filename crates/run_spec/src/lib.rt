@@ -1,1 +1,1 @@
-// Definitions and laws of steps on lent memory; its code is in `moves` and `engine`.
+// Definitions and laws of steps on lent memory; its code is in the other crates of this layer.

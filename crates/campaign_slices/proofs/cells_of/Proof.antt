@@ -1,4 +1,4 @@
--- `slices::cells_of` meets its contract.
+-- `campaign_slices::cells_of` meets its contract.
 use mathlib.Core.Path.{ap, sym}
 use borrow.Author.Needs.{needs}
 use Rattle.rack_spec.specs.Answers.{told}

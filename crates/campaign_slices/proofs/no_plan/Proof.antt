@@ -1,4 +1,4 @@
--- `slices::no_plan` meets its contract.
+-- `campaign_slices::no_plan` meets its contract.
 use mathlib.Core.Path.{refl}
 use Rattle.cube_spec.specs.Limits.{padded}
 use Rattle.plan_spec.specs.Plans.{slotted}

@@ -1,4 +1,4 @@
--- `slices::plan_from` meets its contract.
+-- `campaign_slices::plan_from` meets its contract.
 use mathlib.Core.Path.{_∙_}
 use borrow.Author.Needs.{needs}
 use Rattle.campaign_slices.proofs.Racking as racking

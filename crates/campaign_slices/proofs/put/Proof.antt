@@ -1,4 +1,4 @@
--- `slices::put` meets its contract. Past the last slot a store changes nothing.
+-- `campaign_slices::put` meets its contract. Past the last slot a store changes nothing.
 use Prim.Native.Nat.{_-_, _≤_}
 use mathlib.Core.Path.{_≡_}
 use native.Mathlib.Omega.{arith}

@@ -1,4 +1,4 @@
--- `slices::put_bytes` meets its contract. The invariant: the first i bytes are put.
+-- `campaign_slices::put_bytes` meets its contract. The invariant: the first i bytes are put.
 use Prim.Native.Nat.{_+_, _-_, _≤_}
 use mathlib.Core.Path.{_≡_}
 use native.Mathlib.Omega.{arith}

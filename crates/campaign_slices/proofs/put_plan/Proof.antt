@@ -1,4 +1,4 @@
--- `slices::put_plan` meets its contract.
+-- `campaign_slices::put_plan` meets its contract.
 use mathlib.Core.Path.{_≡_, ap, _∙_}
 use native.Mathlib.Omega.{arith}
 use borrow.Author.Needs.{needs}

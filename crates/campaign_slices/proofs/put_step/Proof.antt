@@ -1,4 +1,4 @@
--- `slices::put_step` meets its contract.
+-- `campaign_slices::put_step` meets its contract.
 use mathlib.Core.Path.{_∙_}
 use borrow.Author.Needs.{needs}
 use Rattle.campaign_slices.proofs.Racking as racking

@@ -1,4 +1,4 @@
--- `regions::regions_to` meets its contract. The invariant: the regions of the first d axes alone.
+-- `plan_region::regions_to` meets its contract. The invariant: the regions of the first d axes alone.
 use Prim.Native.Nat.{ℕ, _+_, _-_, _*_, _≤_, _<_}
 use mathlib.Core.Path.{_≡_, sym, _∙_, refl, ap, ap₂}
 use native.Mathlib.Omega.{arith}

@@ -1,4 +1,4 @@
--- `commands::axis` meets its contract. A 41 with its operand, or cut short.
+-- `tape_command::axis` meets its contract. A 41 with its operand, or cut short.
 use borrow.Author.Needs.{needs}
 use Rattle.tape_spec.proofs.Decoding as laws
 use Rattle.tape_command.proofs.axis.Tie as tie

@@ -1,4 +1,4 @@
--- `commands::boards` meets its contract. A 42 with its operand, or cut short.
+-- `tape_command::boards` meets its contract. A 42 with its operand, or cut short.
 use borrow.Author.Needs.{needs}
 use Rattle.tape_spec.proofs.Decoding as laws
 use Rattle.tape_command.proofs.boards.Tie as tie

@@ -1,4 +1,4 @@
--- `commands::decode` meets its contract. Each byte that begins a command has its law.
+-- `tape_command::decode` meets its contract. Each byte that begins a command has its law.
 use borrow.Author.Needs.{needs}
 use Rattle.tape_spec.proofs.Decoding as laws
 use Rattle.tape_command.proofs.decode.Tie as tie

@@ -1,4 +1,4 @@
--- `commands::repeated` meets its contract. A 52 with its operands, cut short, or of count 0.
+-- `tape_command::repeated` meets its contract. A 52 with its operands, cut short, or of count 0.
 use mathlib.Core.Path.{_∙_, sym}
 use borrow.Author.Needs.{needs}
 use mir.Syntax.{w32}

@@ -1,4 +1,4 @@
--- `commands::single` meets its contract. A 56 with its operand, or cut short.
+-- `tape_command::single` meets its contract. A 56 with its operand, or cut short.
 use borrow.Author.Needs.{needs}
 use mir.Syntax.{w32}
 use mir.Val.{SFits}

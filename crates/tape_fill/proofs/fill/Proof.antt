@@ -1,4 +1,4 @@
--- `reader::fill` meets its contract. The refusals in their order, then the stores.
+-- `tape_fill::fill` meets its contract. The refusals in their order, then the stores.
 use borrow.Author.Needs.{needs}
 use Rattle.tape_spec.proofs.Refusing as laws
 use Rattle.tape_fill.proofs.fill.Tie as tie

@@ -1,4 +1,4 @@
--- `reader::put_points` meets its contract. One store is the run of one.
+-- `tape_fill::put_points` meets its contract. One store is the run of one.
 use borrow.Author.Needs.{needs}
 use mir.Facts.{toZ-ofZ}
 use Rattle.tape_fill.proofs.put_points.Tie as tie

@@ -1,4 +1,4 @@
--- `reader::repeat` meets its contract. The invariant: the first i stores are done.
+-- `tape_fill::repeat` meets its contract. The invariant: the first i stores are done.
 use Prim.Native.Nat.{_-_, _≤_}
 use mathlib.Core.Path.{_≡_}
 use native.Mathlib.Omega.{arith}

@@ -1,4 +1,4 @@
--- `reader::store` meets its contract. The invariant: storing what is left from here on gives the same slice as storing all from the start. Lengths and p are passed over.
+-- `tape_fill::store` meets its contract. The invariant: storing what is left from here on gives the same slice as storing all from the start. Lengths and p are passed over.
 use Prim.Native.Nat.{_+_, _-_, _≤_}
 use mathlib.Core.Path.{refl, _≡_, _∙_, sym}
 use native.Mathlib.Nat.{zero-add}

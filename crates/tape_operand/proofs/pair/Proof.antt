@@ -1,4 +1,4 @@
--- `operands::pair` meets its contract. The sum of the bytes as they are weighed is `little`.
+-- `tape_operand::pair` meets its contract. The sum of the bytes as they are weighed is `little`.
 use native.Mathlib.Omega.{arith}
 use borrow.Author.Needs.{needs}
 use Rattle.cube_spec.specs.Bytes.{little}

@@ -1,4 +1,4 @@
--- `operands::quad` meets its contract. The sum of the bytes as they are weighed is `little`.
+-- `tape_operand::quad` meets its contract. The sum of the bytes as they are weighed is `little`.
 use native.Mathlib.Omega.{arith}
 use borrow.Author.Needs.{needs}
 use Rattle.cube_spec.specs.Bytes.{little}

@@ -1,4 +1,4 @@
--- `operands::signed` meets its contract. Both halves of the range are `toZ`; the upper one by the complement of the complement.
+-- `tape_operand::signed` meets its contract. Both halves of the range are `toZ`; the upper one by the complement of the complement.
 use Prim.Native.Nat.{_-_}
 use mathlib.Core.Path.{_≡_, refl, ap}
 use native.Mathlib.Omega.{arith}

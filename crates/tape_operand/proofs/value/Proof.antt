@@ -1,4 +1,4 @@
--- `operands::value` meets its contract. The signed number of the four bytes.
+-- `tape_operand::value` meets its contract. The signed number of the four bytes.
 use borrow.Author.Needs.{needs}
 use mir.Syntax.{w32}
 use mir.Val.{SFits}

@@ -1,4 +1,4 @@
--- `scanner::count` meets its contract. The invariant: the points so far with those that are left are all of them, and few enough for 64 bits.
+-- `tape_scan::count` meets its contract. The invariant: the points so far with those that are left are all of them, and few enough for 64 bits.
 use Prim.Native.Nat.{_+_, _-_, _*_, _≤_}
 use mathlib.Core.Path.{_≡_, _∙_, sym}
 use native.Mathlib.Omega.{arith}

@@ -1,4 +1,4 @@
--- `scanner::put` meets its contract. Past the last slot a store changes nothing.
+-- `tape_scan::put` meets its contract. Past the last slot a store changes nothing.
 use mathlib.Core.Path.{_≡_, sym}
 use native.Mathlib.Omega.{arith}
 use borrow.Author.Needs.{needs}

@@ -1,4 +1,4 @@
--- `scanner::refused` meets its contract. The zeros are those of `scannedAs`.
+-- `tape_scan::refused` meets its contract. The zeros are those of `scannedAs`.
 use Rattle.tape_spec.proofs.Scanning.{refused-as}
 use Rattle.tape_scan.proofs.refused.Tie as tie
 use Rattle.tape_scan.proofs.refused.Statement.{statement}

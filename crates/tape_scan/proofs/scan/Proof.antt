@@ -1,4 +1,4 @@
--- `scanner::scan` meets its contract. The invariant: the axes and lengths so far with what is left of the tape give the scan.
+-- `tape_scan::scan` meets its contract. The invariant: the axes and lengths so far with what is left of the tape give the scan.
 use Prim.Native.Nat.{_-_, _≤_}
 use mathlib.Core.Path.{_≡_, _∙_, sym}
 use native.Mathlib.Omega.{arith}

@@ -1,4 +1,4 @@
--- `handing::next_line` meets its contract: each return puts the line that is due, or nothing.
+-- `totals_line::next_line` meets its contract: each return puts the line that is due, or nothing.
 use mathlib.Core.Path.{_≡_, sym, _∙_, refl, ap}
 use native.Mathlib.Omega.{arith}
 use Prim.Native.Nat.{_+_, _*_, _-_, _^_, _%_, _<_}

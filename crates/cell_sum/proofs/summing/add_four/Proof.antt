@@ -1,4 +1,4 @@
--- `sums::summing::add_four` meets its contract. The invariant: the first i cells have their four points.
+-- `cell_sum::summing::add_four` meets its contract. The invariant: the first i cells have their four points.
 use borrow.Author.Needs.{needs}
 use Prim.Native.Nat.{_≤_, _-_, _+_}
 use mathlib.Core.Path.{_≡_, refl, sym, _∙_, ap}

@@ -1,4 +1,4 @@
--- `sums::summing::sum_rows` meets its contract. The invariant: the first m rows are summed.
+-- `cell_sum::summing::sum_rows` meets its contract. The invariant: the first m rows are summed.
 use Rattle.cell_spec.proofs.Combs.{rows-none, rows-next, rows-all}
 use Rattle.cell_spec.proofs.Writing.{row-fits}
 use Rattle.cell_spec.specs.Rows.{written, combs}

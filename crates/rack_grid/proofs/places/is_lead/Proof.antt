@@ -1,4 +1,4 @@
--- `grid::places::is_lead` meets its contract. The invariant: what is left of the board's number at place d, and every axis from d on allows a lead.
+-- `rack_grid::places::is_lead` meets its contract. The invariant: what is left of the board's number at place d, and every axis from d on allows a lead.
 use Prim.Native.Nat.{ℕ, _+_, _-_, _%_, _≤_, _<_}
 use mathlib.Core.Path.{_≡_, sym, _∙_, ap}
 use native.Mathlib.Omega.{arith}

@@ -1,4 +1,4 @@
--- `grid::places::leads_of` meets its contract.
+-- `rack_grid::places::leads_of` meets its contract.
 use Prim.Native.Nat.{ℕ, _+_, _-_, _*_, _≤_, _<_}
 use mathlib.Core.Path.{_≡_, _∙_, ap, ap₂}
 use native.Mathlib.Omega.{arith}

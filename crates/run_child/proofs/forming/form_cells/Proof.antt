@@ -1,4 +1,4 @@
--- `children::forming::form_cells` meets its contract.
+-- `run_child::forming::form_cells` meets its contract.
 use Prim.Native.Nat.{_-_, _<_}
 use mathlib.Core.Path.{ap, _∙_}
 use native.Mathlib.Nat.{le-refl}

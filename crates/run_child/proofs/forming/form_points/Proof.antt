@@ -1,4 +1,4 @@
--- `children::forming::form_points` meets its contract.
+-- `run_child::forming::form_points` meets its contract.
 use mathlib.Core.Path.{sym, ap, _∙_}
 use native.Mathlib.Omega.{arith}
 use denote.Ref.{now}

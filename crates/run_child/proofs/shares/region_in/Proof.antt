@@ -1,4 +1,4 @@
--- `children::shares::region_in` meets its contract.
+-- `run_child::shares::region_in` meets its contract.
 use mathlib.Core.Path.{refl}
 use native.Mathlib.Omega.{arith}
 use native.Mathlib.Nat.{mul-le-mul}

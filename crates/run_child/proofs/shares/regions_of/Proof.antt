@@ -1,4 +1,4 @@
--- `children::shares::regions_of` meets its contract. The invariant: the regions before region i stand in their slots.
+-- `run_child::shares::regions_of` meets its contract. The invariant: the regions before region i stand in their slots.
 use Prim.Native.Nat.{ℕ, _-_, _≤_, _<_}
 use mathlib.Core.Path.{_≡_, refl, _∙_}
 use native.Mathlib.Omega.{arith}

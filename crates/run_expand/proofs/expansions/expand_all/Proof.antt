@@ -1,4 +1,4 @@
--- `moves::expansions::expand_all` meets its contract. The invariant: the leads of a rank below r are expanded.
+-- `run_expand::expansions::expand_all` meets its contract. The invariant: the leads of a rank below r are expanded.
 use Prim.Native.Nat.{_-_}
 use native.Mathlib.Omega.{arith}
 use Rattle.plan_spec.specs.Accepted.{Accepted}

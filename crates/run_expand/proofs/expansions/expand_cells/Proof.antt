@@ -1,4 +1,4 @@
--- `moves::expansions::expand_cells` meets its contract. The invariant: the lead's children in regions before j are formed.
+-- `run_expand::expansions::expand_cells` meets its contract. The invariant: the lead's children in regions before j are formed.
 use Prim.Native.Nat.{_-_}
 use mathlib.Core.Path.{sym, ap, _∙_}
 use mathlib.Core.List.{[]}

@@ -1,4 +1,4 @@
--- `moves::expansions::expand_lead` meets its contract: a choice in the work area does not read the array.
+-- `run_expand::expansions::expand_lead` meets its contract: a choice in the work area does not read the array.
 use mathlib.Core.Path.{sym, _∙_}
 use native.Mathlib.Omega.{arith}
 use lib.ListN.{length}

@@ -1,4 +1,4 @@
--- `views::viewing::part_of` meets its contract.
+-- `run_view::viewing::part_of` meets its contract.
 use Prim.Native.Nat.{ℕ, _-_, _*_, _≤_, _<_}
 use mathlib.Core.Path.{_≡_, sym, ap, _∙_}
 use native.Mathlib.Omega.{arith}

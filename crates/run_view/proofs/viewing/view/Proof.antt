@@ -1,4 +1,4 @@
--- `views::viewing::view` meets its contract.
+-- `run_view::viewing::view` meets its contract.
 use Prim.Native.Nat.{_+_, _-_}
 use mathlib.Core.Path.{_≡_, sym, _∙_}
 use native.Mathlib.Omega.{arith}

@@ -1,4 +1,4 @@
--- `grouping::groups::next_group` meets its contract. The invariant: the run is ready, and no group was printed since the call began.
+-- `totals_group::groups::next_group` meets its contract. The invariant: the run is ready, and no group was printed since the call began.
 use Prim.Native.Nat.{ℕ, _+_, _-_, _≤_, _<_}
 use mathlib.Core.Path.{_≡_, sym, _∙_, refl, ap, ap₂}
 use native.Mathlib.Omega.{arith}

@@ -1,4 +1,4 @@
--- `grouping::groups::put_gathered` meets its contract: the line is that of what was gathered.
+-- `totals_group::groups::put_gathered` meets its contract: the line is that of what was gathered.
 use Prim.Native.Nat.{ℕ}
 use mathlib.Core.Path.{_≡_, _∙_, ap}
 use mathlib.Core.List.{List, _∷_, _++_}
