@@ -1,2 +1,3 @@
 // The step at a position.
 pub mod steps;
+pub mod types;

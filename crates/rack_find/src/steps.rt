@@ -2,18 +2,19 @@
 ghost use mathlib.Core.Path.{_≡_};
 ghost use Prim.Native.Nat.{ℕ, _-_};
 ghost use Rattle.plan_spec.specs.Refusals.{planRefusal};
-ghost use Rattle.rack_spec.specs.Steps.{visit, walk, steps};
-ghost use Rattle.rack_spec.specs.Finding.{planGrid, summedIn, found, Walking, Sending};
+ghost use Rattle.rack_spec.specs.Steps.{steps};
+ghost use Rattle.rack_spec.specs.Finding.{planGrid, summedIn, found, Sending};
 ghost use Rattle.rack_spec.specs.Answers.{told, telling, toldAt, toldOf};
 ghost use Rattle.rack_count.specs.Tallied.{Tallied};
+ghost use Rattle.rack_find.specs.Searching.{Searched, foundTold, Sendable, FoundInWalk, FoundInVisit};
+use crate::types::Found;
+use crate::types::Search;
 use cube_choice::types::Choice;
 use plan_spec::types::Plan;
 use rack_count::counts::Tallies;
 use rack_count::counts::count_with;
 use rack_count::counts::parts_of;
 use rack_count::counts::tallies_of;
-use rack_count::counts::transfer_count;
-use rack_count::counts::walk_count;
 use rack_grid::places::board_of;
 use rack_grid::places::cells_with;
 use rack_grid::places::lead_labels;
@@ -41,50 +42,65 @@ fn sending(plan: Plan, choice: Choice, d: usize, at: u64) -> Transfer
 }
 
 // The step at a position of the walk over the children of a choice from place d on, taken from right to left: the later children by the walk over the axes after d,
-// then the transfers of the child that sums out the axis at d, then its visit. The axes before d that the choice keeps have n labellings.
-fn walk(plan: Plan, choice: Choice, d: usize, n: u64, at: u64, tallies: Tallies) -> Step
-    requires { ⌜ (Walking plan (choice .mask) d n) × (Tallied plan tallies) ⌝ }
-    ensures { λ r. ⌜ told r ≡ toldAt (planGrid plan) (walk (planGrid plan) (plan .axes - d) d (summedIn plan (choice .mask))) at ⌝ }
+// then the transfers of the child that sums out the axis at d, then its visit. The axes before d that the choice keeps have n labellings, those from d on `rest`.
+fn walk(s: Search, choice: Choice, d: usize, n: u64, rest: u64, at: u64) -> Found
+    requires { ⌜ Searched s (choice .mask) d n rest ⌝ }
+    ensures { λ r. ⌜ FoundInWalk s (choice .mask) d n rest at r ⌝ }
 {
-    if d == plan.axes as usize {
-        return Step::Done;
+    if d == s.axes {
+        return Found::Done;
     }
-    let axis = plan.order[d];
-    let more = n * (1u64 << plan.exponents[axis as usize]);
-    let later = count_with(tallies.sent[d + 1], plan.axes as usize - (d + 1), more);
+    let axis = s.order[d];
+    let k = s.exponents[axis as usize];
+    let more = n * (1u64 << k);
+    let after = rest >> k;
+    let later = count_with(s.sent[d + 1], s.axes - (d + 1), more);
     if at < later {
-        return walk(plan, choice, d + 1, more, at, tallies);
+        return walk(s, choice, d + 1, more, after, at);
     }
     let child = choice.without(axis);
-    let sent = transfer_count(plan, d, n, tallies);
-    if at - later < sent {
-        return Step::Transfer(sending(plan, child, d, at - later));
+    let sends = (more - n) * after;
+    if at - later < sends {
+        return Found::Send(child, d, at - later);
     }
-    visit(plan, child, d + 1, n, at - later - sent, tallies)
+    visit(s, child, d + 1, n, after, at - later - sends)
 }
 
 // The step at a position of the visit of a choice whose children begin at place d: it is expanded if it has any, and finished after them.
-fn visit(plan: Plan, choice: Choice, d: usize, n: u64, at: u64, tallies: Tallies) -> Step
-    requires { ⌜ (Walking plan (choice .mask) d n) × (Tallied plan tallies) ⌝ }
-    ensures { λ r. ⌜ told r ≡ toldAt (planGrid plan) (visit (walk (planGrid plan) (plan .axes - d) d) (plan .axes - d) (summedIn plan (choice .mask))) at ⌝ }
+fn visit(s: Search, choice: Choice, d: usize, n: u64, rest: u64, at: u64) -> Found
+    requires { ⌜ Searched s (choice .mask) d n rest ⌝ }
+    ensures { λ r. ⌜ FoundInVisit s (choice .mask) d n rest at r ⌝ }
 {
-    if d == plan.axes as usize {
+    if d == s.axes {
         if at == 0 {
-            return Step::Finish(choice);
+            return Found::Finish(choice);
         }
-        return Step::Done;
+        return Found::Done;
     }
     if at == 0 {
-        return Step::Expand(choice);
+        return Found::Expand(choice);
     }
-    let below = walk_count(plan, d, n, tallies);
+    let below = count_with(s.sent[d], s.axes - d, n);
     if at - 1 < below {
-        return walk(plan, choice, d, n, at - 1, tallies);
+        return walk(s, choice, d, n, rest, at - 1);
     }
     if at - 1 == below {
-        return Step::Finish(choice);
+        return Found::Finish(choice);
     }
-    Step::Done
+    Found::Done
+}
+
+// The step that is found, with the boards and the values of a transfer.
+fn step_of(plan: Plan, found: Found) -> Step
+    requires { ⌜ Sendable plan found ⌝ }
+    ensures { λ r. ⌜ told r ≡ foundTold plan found ⌝ }
+{
+    match found {
+        Found::Expand(c) => Step::Expand(c),
+        Found::Send(c, d, i) => Step::Transfer(sending(plan, c, d, i)),
+        Found::Finish(c) => Step::Finish(c),
+        Found::Done => Step::Done,
+    }
 }
 
 // The step at a position of the whole list, done at its end and past it, by tallies that can serve many positions.
@@ -96,10 +112,20 @@ pub fn step_by(plan: Plan, tallies: Tallies, at: u64) -> Step
     if at == 0 {
         return Step::Expand(root);
     }
-    walk(plan, root, 0, 1, at - 1, tallies)
+    let order = plan.order;
+    let exponents = plan.exponents;
+    let sent = tallies.sent;
+    let s = Search {
+        axes: plan.axes as usize,
+        order,
+        exponents,
+        sent,
+    };
+    let found = walk(s, root, 0, 1, tallies.span[0] as u64, at - 1);
+    step_of(plan, found)
 }
 
-// The same for one position.
+// The step at one position.
 pub fn step_at(plan: Plan, at: u64) -> Step
     requires { ⌜ planRefusal plan ≡ 0 ⌝ }
     ensures { λ r. ⌜ told r ≡ toldAt (planGrid plan) (steps (planGrid plan)) at ⌝ }

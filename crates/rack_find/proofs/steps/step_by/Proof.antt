@@ -1,29 +1,58 @@
-use Rattle.plan_spec.proofs.Accepting.{passed-accepted}
+-- `rack_find::steps::step_by` meets its contract: the search begins at the root.
 use mathlib.Core.Path.{_∙_}
-use Rattle.rack_spec.proofs.Seeking.{root-walking, steps-first, steps-later}
+use native.Mathlib.Omega.{arith}
 use borrow.Author.Needs.{needs}
+use Rattle.plan_spec.specs.Accepted.{Accepted}
+use Rattle.plan_spec.proofs.Accepting.{passed-accepted}
+use Rattle.rack_count.proofs.Tallying.{span-told}
+use Rattle.rack_spec.proofs.Seeking.{steps-first, steps-later}
+use Rattle.rack_find.proofs.Searches.{root-searching}
 use Rattle.rack_find.proofs.steps.step_by.Statement.{statement}
 use Rattle.rack_find.proofs.steps.step_by.Tie as tie
 
--- src/steps.rt:93:9
-full-requires : tie.Need-full-requires
-full-requires c κs = search needs
+accepted : (s : tie.Start) → Accepted (s .args .plan)
+accepted s = let gd = s .good .0 .1 .1 .1 .1 in passed-accepted (s .args .plan) (gd .0 .1 .0 .1) (gd .1 .0 .1 .0 .1) (gd .1 .1 .0 .1 .0 .1) (s .pre .0)
 
--- src/steps.rt:95:9
 returns : tie.Need-returns
-returns c = let s = c .before .before in let gd = s .good .0 .1 .1 .1 .1 in let ok = passed-accepted (s .args .plan) (gd .0 .1 .0 .1) (gd .1 .0 .1 .0 .1) (gd .1 .1 .0 .1 .0 .1) (s .pre .0) in rw (c .before .full .ensures) (steps-first ok (s .pre .0) (c .if1 .taken))
+returns c = let s = c .before .before in rw (c .before .full .ensures) (steps-first (accepted s) (s .pre .0) (c .if1 .taken))
 
--- src/steps.rt:98:28
-sub-walk : tie.Need-sub-walk
-sub-walk c = search needs
+cast-walk : tie.Need-cast-walk
+cast-walk c =
+    let s = c .before .before .before .before .before .before .before in
+    let l = span-told (s .args .plan) (accepted s) (s .pre .1) 0 (omega arith) in
+    omega arith
 
--- src/steps.rt:98:5
 walk-requires : tie.Need-walk-requires
-walk-requires c κs = let s = c .before .before in let gd = s .good .0 .1 .1 .1 .1 in let ok = passed-accepted (s .args .plan) (gd .0 .1 .0 .1) (gd .1 .0 .1 .0 .1) (gd .1 .1 .0 .1 .0 .1) (s .pre .0) in (rw (c .before .full .ensures) (root-walking ok (s .pre .0)), s .pre .1)
+walk-requires c κs =
+    let f = c .before .before .before .before .before .before in
+    let s = f .before in
+    record { plan = s .args .plan; searching = root-searching (accepted s) (s .pre .0) (s .pre .1) (f .full .ensures) }
 
--- src/steps.rt:89:1
+step-of-requires : tie.Need-step-of-requires
+step-of-requires c κs =
+    let f = c .before .before .before .before .before .before .before in
+    let s = f .before in
+    c .walk .ensures (s .args .plan) (root-searching (accepted s) (s .pre .0) (s .pre .1) (f .full .ensures)) .1
+
 returns-2 : tie.Need-returns-2
-returns-2 c = let s = c .before .before .before in let gd = s .good .0 .1 .1 .1 .1 in let ok = passed-accepted (s .args .plan) (gd .0 .1 .0 .1) (gd .1 .0 .1 .0 .1) (gd .1 .1 .0 .1 .0 .1) (s .pre .0) in let e = rw (c .before .before .full .ensures) at (c .walk .ensures) in e ∙ steps-later ok (s .pre .0) (c .before .if1 .left)
+returns-2 c =
+    let w = c .before in
+    let i = w .before .before .before .before .before .before in
+    let f = i .before in
+    let s = f .before in
+    let e = w .walk .ensures (s .args .plan) (root-searching (accepted s) (s .pre .0) (s .pre .1) (f .full .ensures)) .0 in
+    c .step-of .ensures ∙ rw (f .full .ensures) at e ∙ steps-later (accepted s) (s .pre .0) (i .if1 .left)
 
 pub step-by-spec : {M : Type 1} → statement M
-step-by-spec = tie.close (tie.spec full-requires returns sub-walk walk-requires returns-2)
+step-by-spec =
+    tie.close
+    (tie.spec
+    (λ c κs. search needs)
+    returns
+    (λ c. search needs)
+    (λ c. search needs)
+    cast-walk
+    (λ c. search needs)
+    walk-requires
+    step-of-requires
+    returns-2)
