@@ -7,8 +7,9 @@ use campaign_slices::put_number;
 use campaign_slices::put_step;
 use plan_check::plan_refusal;
 use rack_count::counts::step_count;
-use rack_count::counts::steps_of;
-use rack_find::steps::step_at;
+use rack_count::counts::steps_by;
+use rack_count::counts::tallies_of;
+use rack_find::steps::step_by;
 use rack_held::holds::held;
 use rack_spec::types::Counted;
 use rack_spec::types::Held;
@@ -41,10 +42,11 @@ pub extern "C" fn campaign_step_at(
     if refusal != 0 {
         return refusal;
     }
-    if steps_of(plan) < position {
+    let tallies = tallies_of(plan);
+    if steps_by(plan, tallies) < position {
         return 12;
     }
-    put_step(step, step_at(plan, position))
+    put_step(step, step_by(plan, tallies, position))
 }
 
 // Held: a slice of one cell gets the number of cells that a board holds at a position.

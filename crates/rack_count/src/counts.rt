@@ -83,14 +83,22 @@ pub fn transfer_count(plan: Plan, d: usize, n: u64, tallies: Tallies) -> u64
     n * (tallies.span[d + 1] as u64) * (parts - 1)
 }
 
+// T, of a plan that no check refuses, by its tallies.
+pub fn steps_by(plan: Plan, tallies: Tallies) -> u64
+    requires { ⌜ (planRefusal plan ≡ 0) × (Tallied plan tallies) ⌝ }
+    ensures { λ r. ⌜ r ≡ stepCount (listsOf plan) ⌝ }
+{
+    let others = walk_count(plan, 0, 1, tallies);
+    others + 1
+}
+
 // T, of a plan that no check refuses.
 pub fn steps_of(plan: Plan) -> u64
     requires { ⌜ planRefusal plan ≡ 0 ⌝ }
     ensures { λ r. ⌜ r ≡ stepCount (listsOf plan) ⌝ }
 {
     let tallies = tallies_of(plan);
-    let others = walk_count(plan, 0, 1, tallies);
-    others + 1
+    steps_by(plan, tallies)
 }
 
 // The public entry: T, or the plan's refusal.
