@@ -7,7 +7,7 @@ use lib.ListN.{length, take}
 use Rattle.report_spec.specs.Printed.{printedLines}
 use Rattle.totals.specs.declared.types.Written.{Written}
 
--- It stops after the last line of the tape's report and not before, unless a write fails: then there was a line left to write.
+-- It stops after the last line of the tape's report, and before that only with the answer that a write failed: then there was a line left to write.
 pub record Ends (tape : List ℕ) (w : Written) : Type 0 where
   pub most : w .lines ≤ length (printedLines tape)
   pub all : w .whole ≡ true → w .lines ≡ length (printedLines tape)

@@ -48,7 +48,7 @@ fn print_lines(
         if !taken {
             return Written {
                 lines: lines,
-                whole: false,
+                whole: taken,
             };
         }
         lines += 1;
@@ -86,7 +86,7 @@ fn print_tape(
     print_loaded(tape, judged, &points[0..n], work, cells, out)
 }
 
-// The same once the points are loaded.
+// From a tape whose points are loaded to its report.
 fn print_loaded(
     tape: &[u8],
     judged: Planned,

@@ -1,13 +1,16 @@
 -- `totals::writing::print_lines` stops where `Ends` says, and ends: each turn hands out a line more, and there are finitely many.
 -- The invariant: the report stands after so many lines, which are no more than it has.
 use Prim.Native.Nat.{ℕ, _+_, _-_, _≤_, _<_}
-use mathlib.Core.Path.{_≡_, sym, _∙_, refl, ap}
+use mathlib.Core.Path.{_≡_, sym, _∙_, refl, ap, subst}
+use mathlib.Core.Bool.{Bool, false}
 use native.Mathlib.Omega.{arith}
 use borrow.Author.Needs.{needs}
 use lib.ListN.{length}
+use Rattle.cube_spec.proofs.Naturals.{not-true}
 use Rattle.report_spec.specs.Printed.{printedLines}
 use Rattle.totals_line.specs.Standing.{Stands}
 use Rattle.totals_line.proofs.Lined.{begins, lines-few, line-some}
+use Rattle.totals.specs.Endings.{Ends}
 use Rattle.totals.proofs.Handed.{line-there}
 use Rattle.totals.proofs.Stopping.{ends-whole, ends-cut}
 use Rattle.totals.proofs.writing.print_lines.Statement.{statement}
@@ -70,7 +73,9 @@ returns-2 c =
     let nl = c .before .before .before .before .before .before .before .before .next-line in
     let lp = c .before .before .before .before .before .before .before .before .before .before .before .before .before in
     let tape = lp .before .before .before .args .tape .now in
-    ends-cut tape (lp .loop .lines) (nl .result) (nl .ensures .0) (c .before .before .before .if1 .left)
+    let q : c .before .write .result ≡ false = not-true _ (c .if2 .taken) in
+    let e = ends-cut tape (lp .loop .lines) (nl .result) (nl .ensures .0) (c .before .before .before .if1 .left) in
+    subst (λ (x : Bool). Ends tape (record { lines = lp .loop .lines; whole = x })) (sym q) e
 
 add-lines : tie.Need-add-lines Inv-loop μ-loop
 add-lines c =
