@@ -162,8 +162,8 @@ fn cases() -> Vec<Case> {
         },
     };
     vec![
-        case("one-axis", "P1", &[5], &[0], &[2]),
-        case("worked-example", "P2, the worked example", &[2, 3], &[1, 0], &[0, 1]),
+        case("one-axis", "one axis cut unevenly", &[6], &[0], &[2]),
+        case("longer-axis-second", "the longer axis second", &[3, 5], &[1, 0], &[0, 1]),
         case("both-split", "shortest axis first, both split", &[3, 2], &[1, 0], &[1, 1]),
         case("uneven", "an axis cut unevenly, and the last one", &[7, 2], &[0, 1], &[2, 1]),
         case("undivided", "one board, three axes", &[2, 3, 2], &[1, 2, 0], &[0, 0, 0]),

@@ -13,7 +13,8 @@ struct Case {
 }
 
 const OPENING: &str = "\
--- Small tapes with what the program prints for each, and tapes at its limits with what it refuses. Written by `compare table tapes`, which works the output out by direct sums of its own.
+-- Small tapes, none of them a case of P1 to P10, with what the program prints for each, and tapes at its limits with what it refuses.
+-- Written by `compare table tapes`, which works the output out by direct sums of its own.
 use Prim.Native.Nat.{ℕ}
 use mathlib.Core.List.{List, [], _∷_}
 use lib.ListN.{replicate}
@@ -111,25 +112,25 @@ fn accepted() -> Vec<Case> {
     let lowest = i32::MIN;
     vec![
         case(
-            "worked-example",
-            "lengths 2, 3, p 1: the worked example",
-            tape(&[2, 3], 1, &[1, -2, 3, 4, 5, -6]),
+            "longer-axis-second",
+            "lengths 2, 5, p 1: the longer axis second",
+            tape(&[2, 5], 1, &[1, -2, 3, 4, 5, -6, 0, 7, -8, 9]),
         ),
-        case("one-axis", "length 5, p 2: one axis", tape(&[5], 2, &[7, 0, -1, 12, 3])),
+        case("one-axis", "length 6, p 2: one axis", tape(&[6], 2, &[7, 0, -1, 12, 3, -40])),
         case(
             "three-axes",
-            "lengths 2, 2, 2, p 2: three axes, points by a 52",
-            spell::tape(&[2, 2, 2], 2, vec![repeated(3, 5), spell::point(-7), repeated(4, 1)]),
+            "lengths 3, 2, 2, p 2: three axes, points by a 52",
+            spell::tape(&[3, 2, 2], 2, vec![repeated(3, 5), spell::point(-7), repeated(8, 1)]),
         ),
         case(
             "lowest-points",
-            "length 5, p 0: five points of -2147483648",
-            tape(&[5], 0, &[lowest; 5]),
+            "length 6, p 1: six points of -2147483648",
+            tape(&[6], 1, &[lowest; 6]),
         ),
         case(
             "both-axes-split",
-            "lengths 3, 2, p 2: both axes split",
-            tape(&[3, 2], 2, &[1, 10, 100, 1000, 10000, 100000]),
+            "lengths 2, 2, p 2: both axes split",
+            tape(&[2, 2], 2, &[1, 10, 100, 100000]),
         ),
         case("two-axes-of-one", "lengths 1, 1, p 0: two axes of length 1", tape(&[1, 1], 0, &[-9])),
         case(
@@ -147,12 +148,12 @@ fn refused() -> Vec<Case> {
         case("no-end", "refused 2: no 45", without_end(tape(&[2], 1, &[1, 2]))),
         case("no-axes", "refused 3: no 41", tape(&[], 0, &[1])),
         case("zero-length", "refused 4: a length of 0", tape(&[2, 0], 0, &[])),
-        case("too-many-points", "refused 5: lengths 4096, 4097", tape(&[4096, 4097], 0, &[1])),
+        case("too-many-points", "refused 5: lengths 2048, 8193", tape(&[2048, 8193], 0, &[1])),
         case("high-p", "refused 6: p 11", tape(&[4096], 11, &[])),
         case(
             "too-many-boards",
-            "refused 7: lengths 3, 2, p 3",
-            tape(&[3, 2], 3, &[1, 2, 3, 4, 5, 6]),
+            "refused 7: lengths 2, 3, p 3",
+            tape(&[2, 3], 3, &[1, 2, 3, 4, 5, 6]),
         ),
         case(
             "point-missing",

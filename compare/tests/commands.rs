@@ -105,11 +105,11 @@ fn unknown_tables_get_the_usage() {
     }
 }
 
-/// The step list of the worked example, by hand from the paper.
+/// The step list of lengths 3 and 5, the second axis first and split, by hand from the paper.
 #[test]
-fn the_worked_examples_steps_are_listed() {
+fn steps_are_listed() {
     let module = text(&compare(&["table", "steps"]).stdout);
-    let told = "steps = expands 3 ∷ finishes 2 ∷ transfers 1 0 1 2 ∷ expands 1 ∷ finishes 0 ∷ finishes 1 ∷ [];";
+    let told = "steps = expands 3 ∷ finishes 2 ∷ transfers 1 0 1 3 ∷ expands 1 ∷ finishes 0 ∷ finishes 1 ∷ [];";
     assert!(module.contains(told));
     let memory = text(&compare(&["table", "memory"]).stdout);
     assert_eq!(memory.matches("pub record Case").count(), 1);

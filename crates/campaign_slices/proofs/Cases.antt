@@ -1,4 +1,4 @@
--- A plan in two slices, its steps, what its boards hold, and each refusal in its order, computed on lengths 2, 3 with p 1 (P2).
+-- A plan in two slices, its steps, what its boards hold, and each refusal in its order, computed on lengths 3, 5 with p 1.
 use Prim.Native.Nat.{ℕ}
 use mathlib.Core.Path.{_≡_, refl}
 use mathlib.Core.List.{List, [], _∷_, _++_}
@@ -14,23 +14,23 @@ slots a b = a ∷ b ∷ replicate 6 0
 abbrev plan : ℕ → ℕ → List ℕ → List ℕ → List ℕ → Plan
 plan axes p order exponents lengths = planFrom (axes ∷ p ∷ (order ++ exponents)) lengths
 
-abbrev P2 : Plan
-P2 = plan 2 1 (slots 1 0) (slots 0 1) (slots 2 3)
+abbrev small : Plan
+small = plan 2 1 (slots 1 0) (slots 0 1) (slots 3 5)
 
 -- T; each step, and done at T; its prices; the plan's bytes again; what the two boards hold after the first step and at the end
-steps : (counted P2 (9 ∷ []) ≡ (6 ∷ []))
-    × (steppedAt P2 0 (replicate 5 9) ≡ (1 ∷ 0 ∷ 0 ∷ 3 ∷ 0 ∷ []))
-    × (steppedAt P2 1 (replicate 5 9) ≡ (3 ∷ 0 ∷ 0 ∷ 2 ∷ 0 ∷ []))
-    × (steppedAt P2 2 (replicate 5 9) ≡ (2 ∷ 1 ∷ 0 ∷ 1 ∷ 2 ∷ []))
-    × (steppedAt P2 3 (replicate 5 9) ≡ (1 ∷ 0 ∷ 0 ∷ 1 ∷ 0 ∷ []))
-    × (steppedAt P2 4 (replicate 5 9) ≡ (3 ∷ 0 ∷ 0 ∷ 0 ∷ 0 ∷ []))
-    × (steppedAt P2 5 (replicate 5 9) ≡ (3 ∷ 0 ∷ 0 ∷ 1 ∷ 0 ∷ []))
-    × (steppedAt P2 6 (replicate 5 9) ≡ (4 ∷ 0 ∷ 0 ∷ 0 ∷ 0 ∷ []))
-    × (priced P2 (replicate 3 9) ≡ (2 ∷ 14 ∷ 4 ∷ []))
-    × (bytesOf P2 ≡ (2 ∷ 1 ∷ (slots 1 0 ++ slots 0 1)))
-    × (held P2 1 0 (9 ∷ []) ≡ (3 ∷ []))
-    × (held P2 1 1 (9 ∷ []) ≡ (4 ∷ []))
-    × (held P2 6 0 (9 ∷ []) ≡ (0 ∷ []))
+steps : (counted small (9 ∷ []) ≡ (6 ∷ []))
+    × (steppedAt small 0 (replicate 5 9) ≡ (1 ∷ 0 ∷ 0 ∷ 3 ∷ 0 ∷ []))
+    × (steppedAt small 1 (replicate 5 9) ≡ (3 ∷ 0 ∷ 0 ∷ 2 ∷ 0 ∷ []))
+    × (steppedAt small 2 (replicate 5 9) ≡ (2 ∷ 1 ∷ 0 ∷ 1 ∷ 3 ∷ []))
+    × (steppedAt small 3 (replicate 5 9) ≡ (1 ∷ 0 ∷ 0 ∷ 1 ∷ 0 ∷ []))
+    × (steppedAt small 4 (replicate 5 9) ≡ (3 ∷ 0 ∷ 0 ∷ 0 ∷ 0 ∷ []))
+    × (steppedAt small 5 (replicate 5 9) ≡ (3 ∷ 0 ∷ 0 ∷ 1 ∷ 0 ∷ []))
+    × (steppedAt small 6 (replicate 5 9) ≡ (4 ∷ 0 ∷ 0 ∷ 0 ∷ 0 ∷ []))
+    × (priced small (replicate 3 9) ≡ (3 ∷ 33 ∷ 6 ∷ []))
+    × (bytesOf small ≡ (2 ∷ 1 ∷ (slots 1 0 ++ slots 0 1)))
+    × (held small 1 0 (9 ∷ []) ≡ (5 ∷ []))
+    × (held small 1 1 (9 ∷ []) ≡ (6 ∷ []))
+    × (held small 6 0 (9 ∷ []) ≡ (0 ∷ []))
 unfolding computing
 steps = (refl, refl, refl, refl, refl, refl, refl, refl, refl, refl, refl, refl, refl)
 
@@ -40,24 +40,24 @@ refused : (countRefusal (planFrom (replicate 17 1) (slots 2 3)) 1 ≡ 3)
     × (countRefusal (planFrom (2 ∷ 1 ∷ (slots 1 0 ++ slots 0 1)) (replicate 9 2)) 1 ≡ 3)
     × (atRefusal (plan 9 11 (slots 1 1) (slots 0 1) (slots 0 3)) 0 5 ≡ 3)
     × (atRefusal (plan 2 11 (slots 1 1) (slots 0 1) (slots 0 3)) 0 5 ≡ 4)
-    × (atRefusal (plan 2 11 (slots 1 1) (slots 0 1) (slots 4096 4097)) 0 5 ≡ 5)
+    × (atRefusal (plan 2 11 (slots 1 1) (slots 0 1) (slots 2048 8193)) 0 5 ≡ 5)
     × (atRefusal (plan 2 11 (slots 1 1) (slots 0 1) (slots 2 3)) 0 4 ≡ 6)
     × (atRefusal (plan 2 1 (slots 1 1) (slots 1 1) (slots 2 3)) 0 4 ≡ 8)
     × (atRefusal (plan 1 1 (slots 0 0) (slots 0 1) (slots 2 0)) 0 4 ≡ 8)
     × (holdRefusal (plan 2 1 (slots 1 0) (slots 1 1) (slots 2 3)) 7 2 2 ≡ 9)
-    × (holdRefusal P2 7 0 2 ≡ 12)
-    × (holdRefusal P2 6 2 2 ≡ 12)
-    × (holdRefusal P2 6 1 2 ≡ 13)
-    × (atRefusal P2 0 4 ≡ 13)
-    × (countRefusal P2 0 ≡ 13)
-    × (priceRefusal P2 2 ≡ 13)
-    × (atRefusal P2 6 5 ≡ 0)
-    × (atRefusal P2 7 4 ≡ 12)
-    × (countRefusal P2 1 ≡ 0)
+    × (holdRefusal small 7 0 2 ≡ 12)
+    × (holdRefusal small 6 2 2 ≡ 12)
+    × (holdRefusal small 6 1 2 ≡ 13)
+    × (atRefusal small 0 4 ≡ 13)
+    × (countRefusal small 0 ≡ 13)
+    × (priceRefusal small 2 ≡ 13)
+    × (atRefusal small 6 5 ≡ 0)
+    × (atRefusal small 7 4 ≡ 12)
+    × (countRefusal small 1 ≡ 0)
 unfolding computing
 refused = (refl, refl, refl, refl, refl, refl, refl, refl, refl, refl, refl, refl, refl, refl, refl, refl, refl, refl)
 
 -- a refusal leaves the lent slice as it was
-left : (counted P2 (7 ∷ 8 ∷ []) ≡ (7 ∷ 8 ∷ [])) × (steppedAt P2 0 (7 ∷ 8 ∷ []) ≡ (7 ∷ 8 ∷ [])) × (held P2 7 0 (7 ∷ []) ≡ (7 ∷ []))
+left : (counted small (7 ∷ 8 ∷ []) ≡ (7 ∷ 8 ∷ [])) × (steppedAt small 0 (7 ∷ 8 ∷ []) ≡ (7 ∷ 8 ∷ [])) × (held small 7 0 (7 ∷ []) ≡ (7 ∷ []))
 unfolding computing
 left = (refl, refl, refl)

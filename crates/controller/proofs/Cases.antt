@@ -1,4 +1,4 @@
--- The controller's planning on small byte lists: P2, P4, P5, P9 and each refusal in its order.
+-- The controller's planning on small byte lists that are none of P1 to P10, and each refusal in its order.
 use Prim.Native.Nat.{ℕ}
 use mathlib.Core.Path.{_≡_, refl}
 use mathlib.Core.List.{List, [], _∷_}
@@ -6,9 +6,9 @@ use lib.ListN.{replicate}
 use Rattle.controller.specs.Computing.{computing}
 use Rattle.controller.specs.Bytes.{controllerRefusal, written}
 
--- lengths 2, 3 and p 1: axes 1, 0 with exponents 1, 0; lengths 2, 2, 2 and p 2; lengths 258 and 300 spelled in two bytes each, p 3
-plans : (written (2 ∷ 0 ∷ 3 ∷ 0 ∷ []) 1 (replicate 4 9) ≡ (1 ∷ 0 ∷ 1 ∷ 0 ∷ []))
-    × (written (2 ∷ 0 ∷ 2 ∷ 0 ∷ 2 ∷ 0 ∷ []) 2 (replicate 6 9) ≡ (0 ∷ 1 ∷ 2 ∷ 1 ∷ 1 ∷ 0 ∷ []))
+-- lengths 2, 5 and p 1: axes 1, 0 with exponents 1, 0; lengths 3, 3, 3 and p 2; lengths 258 and 300 spelled in two bytes each, p 3
+plans : (written (2 ∷ 0 ∷ 5 ∷ 0 ∷ []) 1 (replicate 4 9) ≡ (1 ∷ 0 ∷ 1 ∷ 0 ∷ []))
+    × (written (3 ∷ 0 ∷ 3 ∷ 0 ∷ 3 ∷ 0 ∷ []) 2 (replicate 6 9) ≡ (0 ∷ 1 ∷ 2 ∷ 1 ∷ 1 ∷ 0 ∷ []))
     × (written (2 ∷ 1 ∷ 44 ∷ 1 ∷ []) 3 (replicate 4 9) ≡ (1 ∷ 0 ∷ 2 ∷ 1 ∷ []))
 unfolding computing
 plans = (refl, refl, refl)
@@ -18,17 +18,17 @@ refused : (controllerRefusal [] 0 0 ≡ 3)
     × (controllerRefusal (2 ∷ 0 ∷ 3 ∷ []) 0 2 ≡ 3)
     × (controllerRefusal (replicate 18 1) 0 18 ≡ 3)
     × (controllerRefusal (2 ∷ 0 ∷ 0 ∷ 0 ∷ []) 200 4 ≡ 4)
-    × (controllerRefusal (0 ∷ 16 ∷ 1 ∷ 16 ∷ []) 11 4 ≡ 5)
+    × (controllerRefusal (0 ∷ 8 ∷ 1 ∷ 32 ∷ []) 11 4 ≡ 5)
     × (controllerRefusal (2 ∷ 0 ∷ []) 11 0 ≡ 6)
-    × (controllerRefusal (3 ∷ 0 ∷ 2 ∷ 0 ∷ []) 3 0 ≡ 7)
-    × (controllerRefusal (3 ∷ 0 ∷ 2 ∷ 0 ∷ []) 2 3 ≡ 13)
-    × (controllerRefusal (3 ∷ 0 ∷ 2 ∷ 0 ∷ []) 2 5 ≡ 13)
-    × (controllerRefusal (3 ∷ 0 ∷ 2 ∷ 0 ∷ []) 2 4 ≡ 0)
-    × (controllerRefusal (0 ∷ 16 ∷ 0 ∷ 16 ∷ []) 0 4 ≡ 0)
+    × (controllerRefusal (5 ∷ 0 ∷ 2 ∷ 0 ∷ []) 4 0 ≡ 7)
+    × (controllerRefusal (5 ∷ 0 ∷ 2 ∷ 0 ∷ []) 2 3 ≡ 13)
+    × (controllerRefusal (5 ∷ 0 ∷ 2 ∷ 0 ∷ []) 2 5 ≡ 13)
+    × (controllerRefusal (5 ∷ 0 ∷ 2 ∷ 0 ∷ []) 2 4 ≡ 0)
+    × (controllerRefusal (0 ∷ 8 ∷ 0 ∷ 32 ∷ []) 0 4 ≡ 0)
 unfolding computing
 refused = (refl, refl, refl, refl, refl, refl, refl, refl, refl, refl, refl)
 
 -- a refusal leaves the result slice as it was
-left : (written (2 ∷ 0 ∷ 3 ∷ []) 1 (7 ∷ 8 ∷ []) ≡ (7 ∷ 8 ∷ [])) × (written (3 ∷ 0 ∷ 2 ∷ 0 ∷ []) 2 (7 ∷ 8 ∷ 9 ∷ []) ≡ (7 ∷ 8 ∷ 9 ∷ []))
+left : (written (2 ∷ 0 ∷ 3 ∷ []) 1 (7 ∷ 8 ∷ []) ≡ (7 ∷ 8 ∷ [])) × (written (5 ∷ 0 ∷ 2 ∷ 0 ∷ []) 2 (7 ∷ 8 ∷ 9 ∷ []) ≡ (7 ∷ 8 ∷ 9 ∷ []))
 unfolding computing
 left = (refl, refl)

@@ -1,4 +1,4 @@
--- The definitions of this layer, computed: the worked example's choices and totals, the paper's prices, and small boxes.
+-- The definitions of this layer, computed on small campaigns that are none of P1 to P10; the numbers are those of compare/.
 use Prim.Native.Nat.{ℕ, zero, suc, _^_, _<_, _≤_}
 use mathlib.Core.Path.{_≡_, refl}
 use mathlib.Core.Bool.{Bool, true, false}
@@ -48,13 +48,13 @@ cells-of : (points (2 ∷ 3 ∷ 5 ∷ []) ≡ 30)
 unfolding computing
 cells-of = (refl, refl)
 
--- the worked example: lengths 2 and 3, points 1 −2 3 4 5 −6
-example : ℕ → ℤ
-example i = getD (pos 1 ∷ negsuc 1 ∷ pos 3 ∷ pos 4 ∷ pos 5 ∷ negsuc 5 ∷ []) i (pos 0)
+-- lengths 3 and 2, points 4 −7 0 2 −1 9
+array : ℕ → ℤ
+array i = getD (pos 4 ∷ negsuc 6 ∷ pos 0 ∷ pos 2 ∷ negsuc 0 ∷ pos 9 ∷ []) i (pos 0)
 
-example-totals : table 3 (totals (2 ∷ 3 ∷ []) example) ≡ ((pos 5 ∷ []) ∷ (pos 2 ∷ pos 3 ∷ []) ∷ (pos 5 ∷ pos 3 ∷ negsuc 2 ∷ []) ∷ [])
-unfolding computing example
-example-totals = refl
+totals-of : table 3 (totals (3 ∷ 2 ∷ []) array) ≡ ((pos 7 ∷ []) ∷ (negsuc 2 ∷ pos 2 ∷ pos 8 ∷ []) ∷ (pos 3 ∷ pos 4 ∷ []) ∷ [])
+unfolding computing array
+totals-of = refl
 
 -- ---- portions: 5 in 2, and 7 in 4
 
@@ -76,27 +76,41 @@ tree : (children 4 [] ≡ (0 ∷ []) ∷ (1 ∷ []) ∷ (2 ∷ []) ∷ (3 ∷ []
 unfolding computing
 tree = (refl, refl, refl, refl, refl)
 
--- P5 and P6: lengths and exponents in plan order
-moves : (moved 3 (at (2 ∷ 2 ∷ 2 ∷ [])) (at (1 ∷ 1 ∷ 0 ∷ [])) ∷ moved 3 (at (2 ∷ 2 ∷ 2 ∷ [])) (at (0 ∷ 1 ∷ 1 ∷ [])) ∷ moved 2 (at (4 ∷ 2 ∷ [])) (at (0 ∷ 1 ∷ [])) ∷ moved 2 (at (2 ∷ 4 ∷ [])) (at (1 ∷ 0 ∷ [])) ∷ moved 2 (at (4 ∷ 2 ∷ [])) (at (1 ∷ 0 ∷ [])) ∷ weighted 2 (at (4 ∷ 2 ∷ [])) (at (0 ∷ 1 ∷ [])) ∷ []) ≡ (10 ∷ 15 ∷ 5 ∷ 4 ∷ 2 ∷ 5 ∷ [])
+-- values moved, lengths and exponents in plan order: 3, 3, 2 with two divisions, 6 and 2 in both orders, and by weights
+moves : (moved 3 (at (3 ∷ 3 ∷ 2 ∷ [])) (at (1 ∷ 1 ∷ 0 ∷ [])) ≡ 14)
+    × (moved 3 (at (3 ∷ 3 ∷ 2 ∷ [])) (at (0 ∷ 1 ∷ 1 ∷ [])) ≡ 24)
+    × (moved 2 (at (6 ∷ 2 ∷ [])) (at (0 ∷ 1 ∷ [])) ≡ 7)
+    × (moved 2 (at (2 ∷ 6 ∷ [])) (at (1 ∷ 0 ∷ [])) ≡ 6)
+    × (moved 2 (at (6 ∷ 2 ∷ [])) (at (1 ∷ 0 ∷ [])) ≡ 2)
+    × (weighted 2 (at (6 ∷ 2 ∷ [])) (at (0 ∷ 1 ∷ [])) ≡ 7)
 unfolding computing
-moves = refl
+moves = (refl, refl, refl, refl, refl, refl)
 
--- T of eight axes, three portions deep and one each: the most steps that there can be
-most-steps : stepCount 8 (at (3 ∷ 1 ∷ 1 ∷ 1 ∷ 1 ∷ 1 ∷ 1 ∷ 1 ∷ [])) 10 ≡ 19810
+-- T of eight axes and 1,024 boards: the most of the planner's plans, and a lawful plan with more, the long axis last
+most-steps : (stepCount 8 (at (3 ∷ 1 ∷ 1 ∷ 1 ∷ 1 ∷ 1 ∷ 1 ∷ 1 ∷ [])) 10 ≡ 19810)
+    × (stepCount 8 (at (0 ∷ 0 ∷ 0 ∷ 0 ∷ 0 ∷ 0 ∷ 0 ∷ 10 ∷ [])) 10 ≡ 131327)
 unfolding computing
-most-steps = refl
+most-steps = (refl, refl)
 
--- P8, P2 and P1: cells added up, A and T
-prices : (added 2 (at (3 ∷ 3 ∷ [])) ∷ added 2 (at (3 ∷ 2 ∷ [])) ∷ weight 2 (at (3 ∷ 2 ∷ [])) 0 ∷ weight 2 (at (3 ∷ 2 ∷ [])) 1 ∷ shareSize 2 (at (2 ∷ 2 ∷ [])) ∷ shareSize 1 (at (2 ∷ [])) ∷ regionSize 2 (at (5 ∷ 7 ∷ [])) 0 ∷ regionStart 2 (at (5 ∷ 7 ∷ [])) 1 ∷ stepCount 2 (at (1 ∷ 0 ∷ [])) 1 ∷ stepCount 1 (at (2 ∷ [])) 2 ∷ []) ≡ (21 ∷ 14 ∷ 2 ∷ 4 ∷ 4 ∷ 1 ∷ 7 ∷ 7 ∷ 6 ∷ 5 ∷ [])
+-- cells added up, weights, A and T: 7 and 4 with exponents 2 and 1, and 9 with exponent 3; regions of extents 5 and 7
+prices : (added 2 (at (4 ∷ 3 ∷ [])) ≡ 27)
+    × (added 2 (at (7 ∷ 4 ∷ [])) ≡ 60)
+    × (table 2 (weight 2 (at (7 ∷ 4 ∷ []))) ≡ 4 ∷ 8 ∷ [])
+    × (shareSize 2 (at (2 ∷ 2 ∷ [])) ≡ 4)
+    × (shareSize 1 (at (2 ∷ [])) ≡ 1)
+    × (regionSize 2 (at (5 ∷ 7 ∷ [])) 0 ≡ 7)
+    × (regionStart 2 (at (5 ∷ 7 ∷ [])) 1 ≡ 7)
+    × (stepCount 2 (at (2 ∷ 1 ∷ [])) 3 ≡ 16)
+    × (stepCount 1 (at (3 ∷ [])) 3 ≡ 9)
 unfolding computing
-prices = refl
+prices = (refl, refl, refl, refl, refl, refl, refl, refl, refl)
 
--- ---- P6 as a way with a division: axes 4 and 2, the parents of the order 0, 1 and of the order 1, 0
+-- ---- a way with a division: axes 6 and 2, the parents of the order 0, 1 and of the order 1, 0
 
-division : Division (4 ∷ 2 ∷ []) 1
+division : Division (6 ∷ 2 ∷ []) 1
 division = record { exponents = 0 ∷ 1 ∷ []; each = refl; fits = fits; sums = unfold computing in refl }
   where
-    fits : (d : ℕ) → d < 2 → 2 ^ getD (0 ∷ 1 ∷ []) d 0 ≤ getD (4 ∷ 2 ∷ []) d 0
+    fits : (d : ℕ) → d < 2 → 2 ^ getD (0 ∷ 1 ∷ []) d 0 ≤ getD (6 ∷ 2 ∷ []) d 0
     fits zero h = omega arith
     fits (suc zero) h = omega arith
     fits (suc (suc d)) h = absurd (omega arith)
@@ -127,9 +141,12 @@ first-way = way 1 1 0 (omega arith) (omega arith) (omega arith) (unfold computin
 second-way : Way 2
 second-way = way 0 1 0 (omega arith) (omega arith) (omega arith) (unfold computing in refl) (unfold computing in refl) (unfold computing in refl)
 
-ways : (movedBy (4 ∷ 2 ∷ []) division first-way ∷ movedBy (4 ∷ 2 ∷ []) division second-way ∷ addedBy (4 ∷ 2 ∷ []) first-way ∷ addedBy (4 ∷ 2 ∷ []) second-way ∷ []) ≡ (5 ∷ 4 ∷ 18 ∷ 20 ∷ [])
+ways : (movedBy (6 ∷ 2 ∷ []) division first-way ≡ 7)
+    × (movedBy (6 ∷ 2 ∷ []) division second-way ≡ 6)
+    × (addedBy (6 ∷ 2 ∷ []) first-way ≡ 26)
+    × (addedBy (6 ∷ 2 ∷ []) second-way ≡ 30)
 unfolding computing division way first-way second-way
-ways = refl
+ways = (refl, refl, refl, refl)
 
 rooms : (table 9 log2 ≡ 0 ∷ 0 ∷ 1 ∷ 1 ∷ 2 ∷ 2 ∷ 2 ∷ 2 ∷ 3 ∷ [])
     × (room (5 ∷ 3 ∷ 1 ∷ []) ≡ 3)

@@ -45,16 +45,16 @@ pub held-cases : held-all cases ≡ listed-held cases
 unfolding computing cases holdings held-all listed-held
 held-cases = refl
 
--- held and the step count as entries: the worked example has T 6 and two boards
+-- held and the step count as entries: lengths 3 and 5, the second axis first and split, have T 6 and two boards
 plan : ℕ → Plan
-plan p = record { axes = 2; lengths = 2 ∷ 3 ∷ replicate 6 0; order = 1 ∷ 0 ∷ replicate 6 0; exponents = 0 ∷ 1 ∷ replicate 6 0; p = p }
+plan p = record { axes = 2; lengths = 3 ∷ 5 ∷ replicate 6 0; order = 1 ∷ 0 ∷ replicate 6 0; exponents = 0 ∷ 1 ∷ replicate 6 0; p = p }
 
 entries : (counting (plan 1) ≡ gives 6)
     × (counting (plan 2) ≡ refuses 9)
     × (holding (plan 2) 7 2 ≡ refuses 9)
     × (holding (plan 1) 7 0 ≡ refuses 12)
     × (holding (plan 1) 1 2 ≡ refuses 12)
-    × (holding (plan 1) 1 1 ≡ gives 4)
+    × (holding (plan 1) 1 1 ≡ gives 6)
     × (holding (plan 1) 6 1 ≡ gives 0)
 unfolding computing plan
 entries = (refl, refl, refl, refl, refl, refl, refl)

@@ -10,13 +10,13 @@ pub record Case : Type 0 where
   pub steps : List Told
   pub held : List (List ℕ)
 
--- P1
+-- one axis cut unevenly
 unfoldable pub one-axis : Case
-one-axis = record { plan = record { lengths = 5 ∷ []; order = 0 ∷ []; exponents = 2 ∷ []; p = 2 }; steps = expands 1 ∷ transfers 1 0 0 1 ∷ transfers 2 0 0 1 ∷ transfers 3 0 0 1 ∷ finishes 0 ∷ []; held = (0 ∷ 1 ∷ 1 ∷ 1 ∷ 1 ∷ 0 ∷ []) ∷ (0 ∷ 1 ∷ 1 ∷ 1 ∷ 1 ∷ 0 ∷ []) ∷ (0 ∷ 1 ∷ 1 ∷ 1 ∷ 1 ∷ 0 ∷ []) ∷ (0 ∷ 1 ∷ 1 ∷ 1 ∷ 1 ∷ 0 ∷ []) ∷ [] }
+one-axis = record { plan = record { lengths = 6 ∷ []; order = 0 ∷ []; exponents = 2 ∷ []; p = 2 }; steps = expands 1 ∷ transfers 1 0 0 1 ∷ transfers 2 0 0 1 ∷ transfers 3 0 0 1 ∷ finishes 0 ∷ []; held = (0 ∷ 1 ∷ 1 ∷ 1 ∷ 1 ∷ 0 ∷ []) ∷ (0 ∷ 1 ∷ 1 ∷ 1 ∷ 1 ∷ 0 ∷ []) ∷ (0 ∷ 1 ∷ 1 ∷ 1 ∷ 1 ∷ 0 ∷ []) ∷ (0 ∷ 1 ∷ 1 ∷ 1 ∷ 1 ∷ 0 ∷ []) ∷ [] }
 
--- P2, the worked example
-unfoldable pub worked-example : Case
-worked-example = record { plan = record { lengths = 2 ∷ 3 ∷ []; order = 1 ∷ 0 ∷ []; exponents = 0 ∷ 1 ∷ []; p = 1 }; steps = expands 3 ∷ finishes 2 ∷ transfers 1 0 1 2 ∷ expands 1 ∷ finishes 0 ∷ finishes 1 ∷ []; held = (0 ∷ 3 ∷ 2 ∷ 2 ∷ 3 ∷ 2 ∷ 0 ∷ []) ∷ (0 ∷ 4 ∷ 2 ∷ 2 ∷ 2 ∷ 2 ∷ 0 ∷ []) ∷ [] }
+-- the longer axis second
+unfoldable pub longer-axis-second : Case
+longer-axis-second = record { plan = record { lengths = 3 ∷ 5 ∷ []; order = 1 ∷ 0 ∷ []; exponents = 0 ∷ 1 ∷ []; p = 1 }; steps = expands 3 ∷ finishes 2 ∷ transfers 1 0 1 3 ∷ expands 1 ∷ finishes 0 ∷ finishes 1 ∷ []; held = (0 ∷ 5 ∷ 3 ∷ 3 ∷ 4 ∷ 3 ∷ 0 ∷ []) ∷ (0 ∷ 6 ∷ 3 ∷ 3 ∷ 3 ∷ 3 ∷ 0 ∷ []) ∷ [] }
 
 -- shortest axis first, both split
 unfoldable pub both-split : Case
@@ -35,5 +35,5 @@ unfoldable pub three-axes : Case
 three-axes = record { plan = record { lengths = 2 ∷ 3 ∷ 3 ∷ []; order = 2 ∷ 0 ∷ 1 ∷ []; exponents = 0 ∷ 1 ∷ 1 ∷ []; p = 2 }; steps = expands 7 ∷ transfers 1 0 5 2 ∷ transfers 3 2 5 4 ∷ finishes 5 ∷ expands 6 ∷ transfers 1 0 4 1 ∷ transfers 3 2 4 2 ∷ finishes 4 ∷ finishes 6 ∷ transfers 2 0 3 2 ∷ transfers 3 1 3 4 ∷ expands 3 ∷ transfers 1 0 1 2 ∷ finishes 1 ∷ expands 2 ∷ transfers 1 0 0 1 ∷ finishes 0 ∷ finishes 2 ∷ finishes 3 ∷ []; held = (0 ∷ 5 ∷ 5 ∷ 5 ∷ 3 ∷ 4 ∷ 4 ∷ 4 ∷ 3 ∷ 2 ∷ 2 ∷ 2 ∷ 5 ∷ 5 ∷ 3 ∷ 4 ∷ 4 ∷ 3 ∷ 2 ∷ 0 ∷ []) ∷ (0 ∷ 8 ∷ 8 ∷ 8 ∷ 6 ∷ 7 ∷ 7 ∷ 7 ∷ 6 ∷ 4 ∷ 4 ∷ 4 ∷ 8 ∷ 8 ∷ 6 ∷ 7 ∷ 7 ∷ 6 ∷ 4 ∷ 0 ∷ []) ∷ (0 ∷ 8 ∷ 8 ∷ 8 ∷ 4 ∷ 6 ∷ 6 ∷ 6 ∷ 4 ∷ 2 ∷ 2 ∷ 2 ∷ 2 ∷ 2 ∷ 2 ∷ 2 ∷ 2 ∷ 2 ∷ 2 ∷ 0 ∷ []) ∷ (0 ∷ 12 ∷ 12 ∷ 12 ∷ 8 ∷ 10 ∷ 10 ∷ 10 ∷ 8 ∷ 4 ∷ 4 ∷ 4 ∷ 4 ∷ 4 ∷ 4 ∷ 4 ∷ 4 ∷ 4 ∷ 4 ∷ 0 ∷ []) ∷ [] }
 
 unfoldable pub cases : List Case
-unfolding one-axis worked-example both-split uneven undivided three-axes
-cases = one-axis ∷ worked-example ∷ both-split ∷ uneven ∷ undivided ∷ three-axes ∷ []
+unfolding one-axis longer-axis-second both-split uneven undivided three-axes
+cases = one-axis ∷ longer-axis-second ∷ both-split ∷ uneven ∷ undivided ∷ three-axes ∷ []

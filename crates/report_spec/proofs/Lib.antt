@@ -1,5 +1,6 @@
 pub mod Tapes
 pub mod Cases
+pub mod Paper
 pub mod Groups
 pub mod Lined
 pub mod Beginnings

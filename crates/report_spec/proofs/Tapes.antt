@@ -1,4 +1,5 @@
--- Small tapes with what the program prints for each, and tapes at its limits with what it refuses. Written by `compare table tapes`, which works the output out by direct sums of its own.
+-- Small tapes, none of them a case of P1 to P10, with what the program prints for each, and tapes at its limits with what it refuses.
+-- Written by `compare table tapes`, which works the output out by direct sums of its own.
 use Prim.Native.Nat.{ℕ}
 use mathlib.Core.List.{List, [], _∷_}
 use lib.ListN.{replicate}
@@ -13,25 +14,25 @@ pub record Limit : Type 0 where
   pub tape : List ℕ
   pub refusal : ℕ
 
--- lengths 2, 3, p 1: the worked example
-unfoldable pub worked-example : Case
-worked-example = record { tape = 65 ∷ 2 ∷ 0 ∷ 65 ∷ 3 ∷ 0 ∷ 66 ∷ 1 ∷ 86 ∷ 1 ∷ 0 ∷ 0 ∷ 0 ∷ 86 ∷ 254 ∷ 255 ∷ 255 ∷ 255 ∷ 86 ∷ 3 ∷ 0 ∷ 0 ∷ 0 ∷ 86 ∷ 4 ∷ 0 ∷ 0 ∷ 0 ∷ 86 ∷ 5 ∷ 0 ∷ 0 ∷ 0 ∷ 86 ∷ 250 ∷ 255 ∷ 255 ∷ 255 ∷ 69 ∷ []; output = text "plan 2 1 2 14 4\ndim 1 3 1\ndim 0 2 0\ngroup 2 5 3 -3\ngroup 0 5\ngroup 1 2 3\nend 3\n" }
+-- lengths 2, 5, p 1: the longer axis second
+unfoldable pub longer-axis-second : Case
+longer-axis-second = record { tape = 65 ∷ 2 ∷ 0 ∷ 65 ∷ 5 ∷ 0 ∷ 66 ∷ 1 ∷ 86 ∷ 1 ∷ 0 ∷ 0 ∷ 0 ∷ 86 ∷ 254 ∷ 255 ∷ 255 ∷ 255 ∷ 86 ∷ 3 ∷ 0 ∷ 0 ∷ 0 ∷ 86 ∷ 4 ∷ 0 ∷ 0 ∷ 0 ∷ 86 ∷ 5 ∷ 0 ∷ 0 ∷ 0 ∷ 86 ∷ 250 ∷ 255 ∷ 255 ∷ 255 ∷ 86 ∷ 0 ∷ 0 ∷ 0 ∷ 0 ∷ 86 ∷ 7 ∷ 0 ∷ 0 ∷ 0 ∷ 86 ∷ 248 ∷ 255 ∷ 255 ∷ 255 ∷ 86 ∷ 9 ∷ 0 ∷ 0 ∷ 0 ∷ 69 ∷ []; output = text "plan 2 1 2 22 5\ndim 1 5 1\ndim 0 2 0\ngroup 2 -5 -2 10 -4 14\ngroup 0 13\ngroup 1 11 2\nend 3\n" }
 
--- length 5, p 2: one axis
+-- length 6, p 2: one axis
 unfoldable pub one-axis : Case
-one-axis = record { tape = 65 ∷ 5 ∷ 0 ∷ 66 ∷ 2 ∷ 86 ∷ 7 ∷ 0 ∷ 0 ∷ 0 ∷ 86 ∷ 0 ∷ 0 ∷ 0 ∷ 0 ∷ 86 ∷ 255 ∷ 255 ∷ 255 ∷ 255 ∷ 86 ∷ 12 ∷ 0 ∷ 0 ∷ 0 ∷ 86 ∷ 3 ∷ 0 ∷ 0 ∷ 0 ∷ 69 ∷ []; output = text "plan 1 2 3 5 1\ndim 0 5 2\ngroup 0 21\nend 1\n" }
+one-axis = record { tape = 65 ∷ 6 ∷ 0 ∷ 66 ∷ 2 ∷ 86 ∷ 7 ∷ 0 ∷ 0 ∷ 0 ∷ 86 ∷ 0 ∷ 0 ∷ 0 ∷ 0 ∷ 86 ∷ 255 ∷ 255 ∷ 255 ∷ 255 ∷ 86 ∷ 12 ∷ 0 ∷ 0 ∷ 0 ∷ 86 ∷ 3 ∷ 0 ∷ 0 ∷ 0 ∷ 86 ∷ 216 ∷ 255 ∷ 255 ∷ 255 ∷ 69 ∷ []; output = text "plan 1 2 3 6 1\ndim 0 6 2\ngroup 0 -19\nend 1\n" }
 
--- lengths 2, 2, 2, p 2: three axes, points by a 52
+-- lengths 3, 2, 2, p 2: three axes, points by a 52
 unfoldable pub three-axes : Case
-three-axes = record { tape = 65 ∷ 2 ∷ 0 ∷ 65 ∷ 2 ∷ 0 ∷ 65 ∷ 2 ∷ 0 ∷ 66 ∷ 2 ∷ 82 ∷ 3 ∷ 0 ∷ 5 ∷ 0 ∷ 0 ∷ 0 ∷ 86 ∷ 249 ∷ 255 ∷ 255 ∷ 255 ∷ 82 ∷ 4 ∷ 0 ∷ 1 ∷ 0 ∷ 0 ∷ 0 ∷ 69 ∷ []; output = text "plan 3 2 10 38 5\ndim 0 2 1\ndim 1 2 1\ndim 2 2 0\ngroup 3 10 -2 2 2\ngroup 1 8 4\ngroup 5 10 -2 2 2\ngroup 2 12 0\ngroup 0 12\ngroup 4 12 0\ngroup 6 6 6 6 -6\nend 7\n" }
+three-axes = record { tape = 65 ∷ 3 ∷ 0 ∷ 65 ∷ 2 ∷ 0 ∷ 65 ∷ 2 ∷ 0 ∷ 66 ∷ 2 ∷ 82 ∷ 3 ∷ 0 ∷ 5 ∷ 0 ∷ 0 ∷ 0 ∷ 86 ∷ 249 ∷ 255 ∷ 255 ∷ 255 ∷ 82 ∷ 8 ∷ 0 ∷ 1 ∷ 0 ∷ 0 ∷ 0 ∷ 69 ∷ []; output = text "plan 3 2 12 52 8\ndim 0 3 1\ndim 1 2 1\ndim 2 2 0\ngroup 3 10 -2 2 2 2 2\ngroup 1 8 4 4\ngroup 5 10 -2 2 2 2 2\ngroup 2 14 2\ngroup 0 16\ngroup 4 14 2\ngroup 6 7 7 7 -5\nend 7\n" }
 
--- length 5, p 0: five points of -2147483648
+-- length 6, p 1: six points of -2147483648
 unfoldable pub lowest-points : Case
-lowest-points = record { tape = 65 ∷ 5 ∷ 0 ∷ 66 ∷ 0 ∷ 86 ∷ 0 ∷ 0 ∷ 0 ∷ 128 ∷ 86 ∷ 0 ∷ 0 ∷ 0 ∷ 128 ∷ 86 ∷ 0 ∷ 0 ∷ 0 ∷ 128 ∷ 86 ∷ 0 ∷ 0 ∷ 0 ∷ 128 ∷ 86 ∷ 0 ∷ 0 ∷ 0 ∷ 128 ∷ 69 ∷ []; output = text "plan 1 0 0 5 1\ndim 0 5 0\ngroup 0 -10737418240\nend 1\n" }
+lowest-points = record { tape = 65 ∷ 6 ∷ 0 ∷ 66 ∷ 1 ∷ 86 ∷ 0 ∷ 0 ∷ 0 ∷ 128 ∷ 86 ∷ 0 ∷ 0 ∷ 0 ∷ 128 ∷ 86 ∷ 0 ∷ 0 ∷ 0 ∷ 128 ∷ 86 ∷ 0 ∷ 0 ∷ 0 ∷ 128 ∷ 86 ∷ 0 ∷ 0 ∷ 0 ∷ 128 ∷ 86 ∷ 0 ∷ 0 ∷ 0 ∷ 128 ∷ 69 ∷ []; output = text "plan 1 1 1 6 1\ndim 0 6 1\ngroup 0 -12884901888\nend 1\n" }
 
--- lengths 3, 2, p 2: both axes split
+-- lengths 2, 2, p 2: both axes split
 unfoldable pub both-axes-split : Case
-both-axes-split = record { tape = 65 ∷ 3 ∷ 0 ∷ 65 ∷ 2 ∷ 0 ∷ 66 ∷ 2 ∷ 86 ∷ 1 ∷ 0 ∷ 0 ∷ 0 ∷ 86 ∷ 10 ∷ 0 ∷ 0 ∷ 0 ∷ 86 ∷ 100 ∷ 0 ∷ 0 ∷ 0 ∷ 86 ∷ 232 ∷ 3 ∷ 0 ∷ 0 ∷ 86 ∷ 16 ∷ 39 ∷ 0 ∷ 0 ∷ 86 ∷ 160 ∷ 134 ∷ 1 ∷ 0 ∷ 69 ∷ []; output = text "plan 2 2 6 14 3\ndim 0 3 1\ndim 1 2 1\ngroup 1 11 1100 110000\ngroup 0 111111\ngroup 2 10101 101010\nend 3\n" }
+both-axes-split = record { tape = 65 ∷ 2 ∷ 0 ∷ 65 ∷ 2 ∷ 0 ∷ 66 ∷ 2 ∷ 86 ∷ 1 ∷ 0 ∷ 0 ∷ 0 ∷ 86 ∷ 10 ∷ 0 ∷ 0 ∷ 0 ∷ 86 ∷ 100 ∷ 0 ∷ 0 ∷ 0 ∷ 86 ∷ 160 ∷ 134 ∷ 1 ∷ 0 ∷ 69 ∷ []; output = text "plan 2 2 5 10 2\ndim 0 2 1\ndim 1 2 1\ngroup 1 11 100100\ngroup 0 100111\ngroup 2 101 100010\nend 3\n" }
 
 -- lengths 1, 1, p 0: two axes of length 1
 unfoldable pub two-axes-of-one : Case
@@ -53,17 +54,17 @@ no-axes = record { tape = 66 ∷ 0 ∷ 86 ∷ 1 ∷ 0 ∷ 0 ∷ 0 ∷ 69 ∷ [];
 unfoldable pub zero-length : Case
 zero-length = record { tape = 65 ∷ 2 ∷ 0 ∷ 65 ∷ 0 ∷ 0 ∷ 66 ∷ 0 ∷ 69 ∷ []; output = text "refused 4\n" }
 
--- refused 5: lengths 4096, 4097
+-- refused 5: lengths 2048, 8193
 unfoldable pub too-many-points : Case
-too-many-points = record { tape = 65 ∷ 0 ∷ 16 ∷ 65 ∷ 1 ∷ 16 ∷ 66 ∷ 0 ∷ 86 ∷ 1 ∷ 0 ∷ 0 ∷ 0 ∷ 69 ∷ []; output = text "refused 5\n" }
+too-many-points = record { tape = 65 ∷ 0 ∷ 8 ∷ 65 ∷ 1 ∷ 32 ∷ 66 ∷ 0 ∷ 86 ∷ 1 ∷ 0 ∷ 0 ∷ 0 ∷ 69 ∷ []; output = text "refused 5\n" }
 
 -- refused 6: p 11
 unfoldable pub high-p : Case
 high-p = record { tape = 65 ∷ 0 ∷ 16 ∷ 66 ∷ 11 ∷ 69 ∷ []; output = text "refused 6\n" }
 
--- refused 7: lengths 3, 2, p 3
+-- refused 7: lengths 2, 3, p 3
 unfoldable pub too-many-boards : Case
-too-many-boards = record { tape = 65 ∷ 3 ∷ 0 ∷ 65 ∷ 2 ∷ 0 ∷ 66 ∷ 3 ∷ 86 ∷ 1 ∷ 0 ∷ 0 ∷ 0 ∷ 86 ∷ 2 ∷ 0 ∷ 0 ∷ 0 ∷ 86 ∷ 3 ∷ 0 ∷ 0 ∷ 0 ∷ 86 ∷ 4 ∷ 0 ∷ 0 ∷ 0 ∷ 86 ∷ 5 ∷ 0 ∷ 0 ∷ 0 ∷ 86 ∷ 6 ∷ 0 ∷ 0 ∷ 0 ∷ 69 ∷ []; output = text "refused 7\n" }
+too-many-boards = record { tape = 65 ∷ 2 ∷ 0 ∷ 65 ∷ 3 ∷ 0 ∷ 66 ∷ 3 ∷ 86 ∷ 1 ∷ 0 ∷ 0 ∷ 0 ∷ 86 ∷ 2 ∷ 0 ∷ 0 ∷ 0 ∷ 86 ∷ 3 ∷ 0 ∷ 0 ∷ 0 ∷ 86 ∷ 4 ∷ 0 ∷ 0 ∷ 0 ∷ 86 ∷ 5 ∷ 0 ∷ 0 ∷ 0 ∷ 86 ∷ 6 ∷ 0 ∷ 0 ∷ 0 ∷ 69 ∷ []; output = text "refused 7\n" }
 
 -- refused 10: lengths 2, 2 and three points
 unfoldable pub point-missing : Case
@@ -102,8 +103,8 @@ unfoldable pub points-before-limit : Case
 points-before-limit = record { tape = 65 ∷ 2 ∷ 0 ∷ 66 ∷ 0 ∷ 82 ∷ 39 ∷ 35 ∷ 1 ∷ 0 ∷ 0 ∷ 0 ∷ 82 ∷ 1 ∷ 0 ∷ 2 ∷ 0 ∷ 0 ∷ 0 ∷ 69 ∷ []; output = text "refused 10\n" }
 
 unfoldable pub cases : List Case
-unfolding worked-example one-axis three-axes lowest-points both-axes-split two-axes-of-one middle-axis-longest no-end no-axes zero-length too-many-points high-p too-many-boards point-missing past-the-program form-before-length axes-before-length length-before-product product-before-p p-before-boards boards-before-points points-before-limit
-cases = worked-example ∷ one-axis ∷ three-axes ∷ lowest-points ∷ both-axes-split ∷ two-axes-of-one ∷ middle-axis-longest ∷ no-end ∷ no-axes ∷ zero-length ∷ too-many-points ∷ high-p ∷ too-many-boards ∷ point-missing ∷ past-the-program ∷ form-before-length ∷ axes-before-length ∷ length-before-product ∷ product-before-p ∷ p-before-boards ∷ boards-before-points ∷ points-before-limit ∷ []
+unfolding longer-axis-second one-axis three-axes lowest-points both-axes-split two-axes-of-one middle-axis-longest no-end no-axes zero-length too-many-points high-p too-many-boards point-missing past-the-program form-before-length axes-before-length length-before-product product-before-p p-before-boards boards-before-points points-before-limit
+cases = longer-axis-second ∷ one-axis ∷ three-axes ∷ lowest-points ∷ both-axes-split ∷ two-axes-of-one ∷ middle-axis-longest ∷ no-end ∷ no-axes ∷ zero-length ∷ too-many-points ∷ high-p ∷ too-many-boards ∷ point-missing ∷ past-the-program ∷ form-before-length ∷ axes-before-length ∷ length-before-product ∷ product-before-p ∷ p-before-boards ∷ boards-before-points ∷ points-before-limit ∷ []
 
 -- taken: 8192 points
 unfoldable pub most-points : Limit

@@ -34,8 +34,9 @@ decodes : (decoding whole 0 ≡ Axis 258 3)
 unfolding computing whole
 decodes = (refl, refl, refl, refl, refl, refl, refl)
 
--- the paper's tape
-writes : written (2 ∷ 3 ∷ []) 1 (pos 1 ∷ negsuc 1 ∷ pos 3 ∷ pos 4 ∷ pos 5 ∷ negsuc 5 ∷ []) ≡ 0x41 ∷ 2 ∷ 0 ∷ 0x41 ∷ 3 ∷ 0 ∷ 0x42 ∷ 1 ∷ 0x56 ∷ 1 ∷ 0 ∷ 0 ∷ 0 ∷ 0x56 ∷ 254 ∷ 255 ∷ 255 ∷ 255 ∷ 0x56 ∷ 3 ∷ 0 ∷ 0 ∷ 0 ∷ 0x56 ∷ 4 ∷ 0 ∷ 0 ∷ 0 ∷ 0x56 ∷ 5 ∷ 0 ∷ 0 ∷ 0 ∷ 0x56 ∷ 250 ∷ 255 ∷ 255 ∷ 255 ∷ 0x45 ∷ []
+-- the plainest tape of lengths 3 and 515, p 2, points −3, 258, −2^31
+writes : written (3 ∷ 515 ∷ []) 2 (negsuc 2 ∷ pos 258 ∷ negsuc 2147483647 ∷ [])
+    ≡ 0x41 ∷ 3 ∷ 0 ∷ 0x41 ∷ 3 ∷ 2 ∷ 0x42 ∷ 2 ∷ 0x56 ∷ 253 ∷ 255 ∷ 255 ∷ 255 ∷ 0x56 ∷ 2 ∷ 1 ∷ 0 ∷ 0 ∷ 0x56 ∷ 0 ∷ 0 ∷ 0 ∷ 128 ∷ 0x45 ∷ []
 unfolding computing
 writes = refl
 
