@@ -1,6 +1,5 @@
--- Demand 3 for the controller: whatever a call of `campaign_plan` leaves in the result with answer 0 is a lawful plan, and no way with any division over the same boards
--- moves fewer values or adds fewer cells than that plan, by what the caller learns: the function's own contract, as the check reads it.
-use Prim.Native.Nat.{ℕ, _+_, _/_, _%_, _≤_, _<_}
+-- Demand 3 for the controller: whatever a call of `campaign_plan` leaves in the result with answer 0 holds a best plan (specs/Best).
+use Prim.Native.Nat.{ℕ, _+_, _/_, _%_}
 use mathlib.Core.Path.{_≡_, sym, _∙_, refl, ap, ap₂, subst}
 use mathlib.Core.List.{List, _++_}
 use native.Mathlib.Omega.{arith}
@@ -13,41 +12,21 @@ use contract.Lifetimes.{Lfts}
 use borrow.Fn.World.{ArgsD, ResD}
 use denote.Triple.Clauses.{AtExit}
 use Rattle.cube_spec.specs.Boxes.{table}
-use Rattle.cube_spec.specs.Choices.{fullMask, keeps}
-use Rattle.cube_spec.specs.Ways.{Way, Division, movedBy, addedBy}
 use Rattle.cube_spec.proofs.Sums.{by}
-use Rattle.plan_spec.specs.Plans.{PlanLists, Sound, find, moved, added}
+use Rattle.plan_spec.specs.Plans.{find}
 use Rattle.plan_spec.specs.Accepted.{PlanningAccepted}
 use Rattle.plan_spec.specs.Rule.{order, orderedExponents, exponents, planOf}
-use Rattle.plan_spec.specs.Trees.{lastSummed, treeAxis}
+use Rattle.plan_spec.specs.Trees.{treeAxis}
 use Rattle.plan_spec.specs.Refusals.{planningRefusal}
 use Rattle.plan_spec.proofs.Accepting.{planning-accepted}
 use Rattle.plan_spec.proofs.Places.{order-length}
 use Rattle.plan_spec.proofs.Demand.{demand, plan-sound}
-use Rattle.rack_spec.specs.Pointed.{Pointed}
-use Rattle.rack_spec.proofs.Divided.{pointed-division}
+use Rattle.rack_spec.proofs.Divided.{pointed-division, pointed-moves}
 use Rattle.controller.specs.Bytes.{pairs, controllerRefusal, writtenOr, written, planIn}
+use Rattle.controller.specs.Best.{BestPlan}
 use Rattle.controller.proofs.Pairing.{refuses-odd, refuses-planning}
 use Rattle.controller.proofs.campaign_plan.{signature, ended}
 use Rattle.controller.proofs.campaign_plan.Reads as reads
-
--- what is said of the plan a for the lengths ds and p
-pub record BestPlan (ds : List ℕ) (p : ℕ) (a : PlanLists) : Type 0 where
-  -- it is a lawful plan of these lengths over 2^p boards
-  pub lengths : a .lengths ≡ ds
-  pub boards : a .p ≡ p
-  pub sound : Sound a
-  -- no way with any division moves less or adds less; the divisions are the exponents that sum to p and give each board a point
-  pub moved-least : (e : Division ds p) (w : Way (length ds)) → moved a ≤ movedBy ds e w
-  pub pointed-least : (c : Pointed ds p) (w : Way (length ds)) → moved a ≤ movedBy ds (pointed-division c) w
-  pub added-least : (w : Way (length ds)) → added a ≤ addedBy ds w
-  -- its exponents are a division and its tree is a way, and they move and add just that
-  pub division : Division ds p
-  pub way : Way (length ds)
-  pub exponents : division .exponents ≡ a .exponents
-  pub axes : (mask : ℕ) → mask < fullMask (length ds) → way .axis mask ≡ lastSummed (keeps mask) 0 (a .order)
-  pub moves : movedBy ds division way ≡ moved a
-  pub adds : addedBy ds way ≡ added a
 
 planned : (ds : List ℕ) (p : ℕ) → PlanningAccepted ds p → BestPlan ds p (planOf ds p)
 planned ds p ok =
@@ -57,7 +36,7 @@ planned ds p ok =
       boards = unfold planOf in refl;
       sound = plan-sound ds p (ok .lengths .some) (ok .enough);
       moved-least = least .moves-least;
-      pointed-least = λ c w. least .moves-least (pointed-division c) w;
+      pointed-least = λ c w. rw (← pointed-moves c w) (least .moves-least (pointed-division c) w);
       added-least = least .adds-least;
       division = least .division;
       way = least .way;
@@ -93,7 +72,7 @@ written-plan : (bytes : List ℕ) (p : ℕ) (result : List ℕ) → controllerRe
 unfolding written writtenOr
 written-plan bytes p result z = ap (λ k. writtenOr k (pairs bytes) p result) z
 
--- FOR EVERY CALL WITH ANSWER 0
+-- Statement: of every call with answer 0, by what its caller learns: the function's own contract, as the check reads it.
 pub campaign-best : (κs : Lfts 2) (a : ArgsD signature κs) (r : ResD signature κs) (s : AtExit ended κs) → reads.Learnt κs a r s → r ≡ 0
     → BestPlan (pairs (now (a .0))) (a .1 .0) (planIn (pairs (now (a .0))) (a .1 .0) (now (s .1 .1 .0)))
 campaign-best κs a r s h e =

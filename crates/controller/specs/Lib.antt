@@ -1,2 +1,3 @@
 pub mod Bytes
+pub mod Best
 pub mod Computing

@@ -1,7 +1,7 @@
 -- Ways and divisions, over axes by number. `ds` are the lengths; every choice but the full one is a mask below the full one.
 use Prim.Native.Nat.{ℕ, zero, suc, _+_, _*_, _/_, _^_, _≤_, _<_}
 use mathlib.Core.Path.{_≡_}
-use mathlib.Core.Bool.{Bool, true, false}
+use mathlib.Core.Bool.{false}
 use mathlib.Core.List.{List, [], _∷_}
 use lib.Dec.{leb}
 use lib.ListN.{length, getD}
@@ -26,13 +26,13 @@ pub record Division (ds : List ℕ) (p : ℕ) : Type 0 where
   pub fits : (d : ℕ) → d < length ds → 2 ^ getD exponents d 0 ≤ lengthOf ds d
   pub sums : sumList exponents ≡ p
 
--- The cost of a way with a division: over every choice but the full one, its cells × (2^k − 1), each moved value at a price for the axis that is summed.
-unfoldable pub costBy : (price : ℕ → ℕ) (ds : List ℕ) {p : ℕ} → Division ds p → Way (length ds) → ℕ
-costBy price ds e w = sumN (fullMask (length ds)) (λ mask. cells ds mask * sent (getD (e .exponents) (w .axis mask) 0) * price (w .axis mask))
+-- The cost of a way with exponents: over every choice but the full one, its cells × (2^k − 1), each moved value at a price for the axis that is summed.
+unfoldable pub costBy : (price : ℕ → ℕ) (ds ks : List ℕ) → Way (length ds) → ℕ
+costBy price ds ks w = sumN (fullMask (length ds)) (λ mask. cells ds mask * sent (getD ks (w .axis mask) 0) * price (w .axis mask))
 
 -- "A way with a division moves, summed over every choice but the full one, its cells × (2^k − 1), with k that of the one axis its parent has more": a value costs 1
 unfoldable pub movedBy : (ds : List ℕ) {p : ℕ} → Division ds p → Way (length ds) → ℕ
-movedBy ds e w = costBy (λ d. 1) ds e w
+movedBy ds e w = costBy (λ d. 1) ds (e .exponents) w
 
 -- "it adds up the sum of the parents' cells"
 unfoldable pub addedBy : (ds : List ℕ) → Way (length ds) → ℕ

@@ -1,21 +1,18 @@
--- Demand 3 tied to the planner's own clause: whatever a call of `plan` returns with refusal 0, no way with any division over the same boards moves fewer values or
--- adds fewer cells than it says, and the tree and the exponents of the returned plan move and add just that.
-use Prim.Native.Nat.{ℕ, zero, suc, _≤_, _<_}
+-- Demand 3 tied to the planner's own clause: whatever a call of `plan` returns with refusal 0 is best, and can be run (specs/Best).
+use Prim.Native.Nat.{ℕ, zero, suc}
 use mathlib.Core.Path.{_≡_, sym, _∙_, refl, ap, subst}
 use mathlib.Core.List.{List}
 use native.Mathlib.Omega.{arith}
-use lib.ListN.{length}
 use denote.Ref.{now}
 use contract.Lifetimes.{Lfts}
 use borrow.Fn.World.{ArgsD, ResD}
 use denote.Triple.Clauses.{AtExit}
 use Rattle.cube_spec.specs.Checks.{gives}
-use Rattle.cube_spec.specs.Choices.{fullMask, keeps, withMask}
+use Rattle.cube_spec.specs.Choices.{keeps, withMask}
 use Rattle.cube_spec.specs.Tree.{parentOf}
-use Rattle.cube_spec.specs.Ways.{Way, Division, movedBy, addedBy}
 use Rattle.plan_spec.specs.declared.types.Planned.{Planned}
 use Rattle.plan_spec.specs.Plans as Plans
-use Rattle.plan_spec.specs.Plans.{PlanLists, Sound, listsOf, slotted}
+use Rattle.plan_spec.specs.Plans.{PlanLists, listsOf, slotted}
 use Rattle.plan_spec.specs.Accepted.{PlanningAccepted}
 use Rattle.plan_spec.specs.Rule.{exponents, planOf}
 use Rattle.plan_spec.specs.Trees.{lastSummed, treeAxis}
@@ -23,41 +20,14 @@ use Rattle.plan_spec.specs.Refusals.{planningRefusal, planRefusal}
 use Rattle.plan_spec.specs.Answers.{pricesOf, pricing, plannedAs, planning}
 use Rattle.plan_spec.proofs.Accepting.{planning-accepted, planned-accepted, lists-slotted}
 use Rattle.plan_spec.proofs.PricingLaws.{answer-given}
-use Rattle.plan_spec.proofs.Demand.{Least, demand, plan-sound}
+use Rattle.plan_spec.proofs.Demand.{demand, plan-sound}
 use Rattle.rack_spec.specs.Grids.{gridOf, maskOf, summed}
-use Rattle.rack_spec.specs.Pointed.{HasPoint, Pointed}
-use Rattle.rack_spec.proofs.Divided.{pointed-division, sound-pointed}
+use Rattle.rack_spec.specs.Pointed.{HasPoint}
+use Rattle.rack_spec.proofs.Divided.{pointed-division, pointed-moves, sound-pointed}
 use Rattle.rack_spec.proofs.Parents.{tree-parent}
+use Rattle.plan_entry.specs.Best.{Best, Runnable}
 use Rattle.plan_entry.proofs.planning.plan.{signature, ended}
 use Rattle.plan_entry.proofs.planning.plan.Reads as reads
-
--- what the planner's answer r says of the lengths l and p
-pub record Best (l : List ℕ) (p : ℕ) (r : Planned) : Type 0 where
-  pub moved-least : (e : Division l p) (w : Way (length l)) → r .prices .moved ≤ movedBy l e w
-  pub added-least : (w : Way (length l)) → r .prices .added ≤ addedBy l w
-  -- in the demand's own words, over exponents of any size that sum to p and give each of the 2^p boards a point: these are the divisions (rack_spec/Divided)
-  pub pointed-least : (c : Pointed l p) (w : Way (length l)) → r .prices .moved ≤ movedBy l (pointed-division c) w
-  -- the returned plan's exponents are a division, and its tree is a way: a choice's parent has the last axis more, in the returned order, that the choice sums out
-  pub division : Division l p
-  pub way : Way (length l)
-  pub exponents : division .exponents ≡ listsOf (r .plan) .exponents
-  pub axes : (mask : ℕ) → mask < fullMask (length l) → way .axis mask ≡ lastSummed (keeps mask) 0 (listsOf (r .plan) .order)
-  -- that parent is the one in the tree of the returned plan, and each board of that plan has a point
-  pub parents : (mask : ℕ) → mask < fullMask (length l) → maskOf (gridOf (listsOf (r .plan))) (parentOf (summed (gridOf (listsOf (r .plan))) mask)) ≡ withMask mask (way .axis mask)
-  pub points : (b : ℕ) → HasPoint (gridOf (listsOf (r .plan))) b
-  pub moves : movedBy l division way ≡ r .prices .moved
-  pub adds : addedBy l way ≡ r .prices .added
-  -- pricing gives the returned plan the same prices
-  pub priced : pricing (r .plan) ≡ gives (r .prices)
-
--- and the returned plan can be run: it passes every check, and its prices are its own
-pub record Runnable (l : List ℕ) (p : ℕ) (r : Planned) : Type 0 where
-  pub passed : planRefusal (r .plan) ≡ 0
-  pub sound : Sound (listsOf (r .plan))
-  pub some : 0 < length (listsOf (r .plan) .lengths)
-  pub same : listsOf (r .plan) .lengths ≡ l
-  pub boards : listsOf (r .plan) .p ≡ p
-  pub prices : r .prices ≡ pricesOf (listsOf (r .plan))
 
 refusal-of : (k : ℕ) (a : PlanLists) → plannedAs k a .refusal ≡ k
 refusal-of zero a = unfold plannedAs in refl
@@ -100,7 +70,7 @@ answer-best l p e =
     record {
       moved-least = λ d w. rw m (least .moves-least d w);
       added-least = λ w. rw a (least .adds-least w);
-      pointed-least = λ c w. rw m (least .moves-least (pointed-division c) w);
+      pointed-least = λ c w. rw (m, ← pointed-moves c w) (least .moves-least (pointed-division c) w);
       division = least .division;
       way = least .way;
       exponents = rw q (least .exponents ∙ exponents-planned l p ok);
@@ -112,7 +82,7 @@ answer-best l p e =
       priced = rw (q, c) (priced-planned l p ok (planned-accepted l p z));
     }
 
--- for every call, by what its caller learns: the function's own contract, as the check reads it
+-- Statement: of every call, by what its caller learns: the function's own contract, as the check reads it.
 pub planned-best : (κs : Lfts 1) (a : ArgsD signature κs) (r : ResD signature κs) (s : AtExit ended κs) → reads.Learnt κs a r s → r .refusal ≡ 0 → Best (now (a .0)) (a .1 .0) r
 planned-best κs a r s h e =
     let q : r ≡ planning (now (a .0)) (a .1 .0) = h in
@@ -143,6 +113,7 @@ answer-runs l p e =
       prices = c ∙ ap pricesOf (sym s);
     }
 
+-- Statement: and so of every call.
 pub planned-runs : (κs : Lfts 1) (a : ArgsD signature κs) (r : ResD signature κs) (s : AtExit ended κs) → reads.Learnt κs a r s → r .refusal ≡ 0 → Runnable (now (a .0)) (a .1 .0) r
 planned-runs κs a r s h e =
     let q : r ≡ planning (now (a .0)) (a .1 .0) = h in

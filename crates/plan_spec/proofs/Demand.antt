@@ -1,31 +1,16 @@
--- What demand 3 says of plans, in one statement: of all ways with all divisions, the planner's tree with its exponents moves least and adds least.
+-- That of all ways with all divisions the planner's tree with its exponents moves least and adds least, and that its plan is sound.
 use Prim.Native.Nat.{ℕ, _≤_, _<_}
-use mathlib.Core.Path.{_≡_}
 use mathlib.Core.List.{List}
 use lib.ListN.{length}
-use Rattle.cube_spec.specs.Choices.{fullMask, lengthOf}
-use Rattle.cube_spec.specs.Ways.{Way, Division, movedBy, addedBy, room}
-use Rattle.plan_spec.specs.Plans as Plans
+use Rattle.cube_spec.specs.Choices.{lengthOf}
+use Rattle.cube_spec.specs.Ways.{room}
 use Rattle.plan_spec.specs.Plans.{Sound}
-use Rattle.plan_spec.specs.Rule.{exponents, planOf}
-use Rattle.plan_spec.specs.Trees.{treeAxis}
+use Rattle.plan_spec.specs.Rule.{planOf}
+use Rattle.plan_spec.specs.Demand.{Least}
 use Rattle.plan_spec.proofs.Places.{order-length, order-once}
 use Rattle.plan_spec.proofs.Least.{moves-least, adds-least}
 use Rattle.plan_spec.proofs.Attained.{tree-way, tree-way-axis, tree-division, tree-division-exponents, moves-attained, adds-attained}
 use Rattle.plan_spec.proofs.Room.{room-division}
-
-pub record Least (ds : List ℕ) (p : ℕ) : Type 0 where
-  -- the planner's exponents and its tree are a division and a way
-  pub division : Division ds p
-  pub way : Way (length ds)
-  pub exponents : division .exponents ≡ exponents ds p
-  pub axes : (mask : ℕ) → mask < fullMask (length ds) → way .axis mask ≡ treeAxis ds mask
-  -- they move and add what the plan says
-  pub moves : movedBy ds division way ≡ Plans.moved (planOf ds p)
-  pub adds : addedBy ds way ≡ Plans.added (planOf ds p)
-  -- no others move less or add less
-  pub moves-least : (e : Division ds p) (w : Way (length ds)) → Plans.moved (planOf ds p) ≤ movedBy ds e w
-  pub adds-least : (w : Way (length ds)) → Plans.added (planOf ds p) ≤ addedBy ds w
 
 -- for all lengths but 0, and every p that is not refused
 pub demand : (ds : List ℕ) (p : ℕ) → ((d : ℕ) → d < length ds → 1 ≤ lengthOf ds d) → p ≤ room ds → Least ds p

@@ -7,3 +7,4 @@ pub mod Trees
 pub mod Accepted
 pub mod Choosing
 pub mod Pricing
+pub mod Demand

@@ -1,6 +1,6 @@
 -- "exactly then each board has a point": exponents that sum to p are a grid division exactly if each of the 2^p boards has a point, in whatever order these are numbered.
 use Prim.Native.Nat.{ℕ, zero, suc, _-_, _^_, _≤_, _<_}
-use mathlib.Core.Path.{_≡_, sym, _∙_, refl, ap, ap₂}
+use mathlib.Core.Path.{_≡_, sym, _∙_, refl, ap}
 use mathlib.Core.List.{List, [], _∷_}
 use native.Mathlib.Nat.{le-refl}
 use native.Mathlib.Omega.{arith}
@@ -8,11 +8,11 @@ use lib.ListN.{length, getD}
 use lib.Pow.{pow-pos}
 use Rattle.cube_spec.specs.Boxes.{position}
 use Rattle.cube_spec.specs.Portions.{portionStart}
-use Rattle.cube_spec.specs.Ways.{Division, sumList}
+use Rattle.cube_spec.specs.Ways.{Way, Division, sumList, costBy, movedBy}
 use Rattle.cube_spec.proofs.Portions.{extent-some, parts-le}
 use Rattle.plan_spec.specs.Plans.{PlanLists, Sound, count, find, lengthAt, exponentAt, boardCount}
 use Rattle.plan_spec.proofs.Orders.{order-below, rank-below, order-rank}
-use Rattle.rack_spec.specs.Grids.{Grid, Lawful, gridOf, boards, label, withLabel, extent}
+use Rattle.rack_spec.specs.Grids.{gridOf, boards, label, withLabel, extent}
 use Rattle.rack_spec.specs.Pointed.{HasPoint, Pointed}
 use Rattle.rack_spec.proofs.Lawful.{grid-lawful}
 use Rattle.rack_spec.proofs.Boards.{sender-lt, sender-same}
@@ -98,6 +98,11 @@ pointed-division {ds} {p} c = record {
   fits = pointed-fits ds (c .exponents) (c .order) p (c .each) (c .sums) (c .places) (c .once) (c .points);
   sums = c .sums;
 }
+
+-- so that it moves what these exponents move
+pub pointed-moves : {ds : List ℕ} {p : ℕ} (c : Pointed ds p) (w : Way (length ds)) → movedBy ds (pointed-division c) w ≡ costBy (λ d. 1) ds (c .exponents) w
+unfolding movedBy pointed-division
+pointed-moves c w = refl
 
 pub division-pointed : {ds : List ℕ} {p : ℕ} → Division ds p → (order : List ℕ) → length order ≡ length ds → ((d : ℕ) → d < length ds → count d order ≡ 1) → Pointed ds p
 division-pointed {ds} {p} e order places once = record {

@@ -1,4 +1,4 @@
--- Demand 3 over every list of calls, by what callers of step and held learn: the functions' own contracts, as the check reads them.
+-- Demand 3 over every list of calls (specs/Calls), by what callers of plan, step and held learn: the functions' own contracts, as the check reads them.
 use Prim.Native.Nat.{ℕ, zero, suc, _+_, _≤_, _<_}
 use native.Mathlib.Nat.{add-comm}
 use mathlib.Core.Path.{_≡_, sym, _∙_, refl, ap, ap₂, subst}
@@ -25,7 +25,8 @@ use Rattle.rack_spec.proofs.Lawful.{grid-lawful}
 use Rattle.rack_spec.proofs.Counting.{steps-length}
 use Rattle.rack_spec.proofs.Told.{transfer-told}
 use Rattle.rack_spec.proofs.Refusing.{held-given}
-use Rattle.plan_entry.proofs.Best.{Runnable, planned-runs}
+use Rattle.plan_entry.specs.Best.{Runnable}
+use Rattle.plan_entry.proofs.Best.{planned-runs}
 use Rattle.plan_entry.proofs.planning.plan as plan
 use Rattle.plan_entry.proofs.planning.plan.Reads as plan-reads
 use Rattle.rack_held.proofs.holds.held as held
@@ -35,16 +36,16 @@ use Rattle.run_spec.proofs.Claimed as Claimed
 use Rattle.run_spec.proofs.Claimed.{Lent, claim-within, claim-moved, claim-all, claim-held}
 use Rattle.run_step.proofs.stepping.step.{signature, ended}
 use Rattle.run_step.proofs.stepping.step.Reads as reads
-use Rattle.run_claims.specs.Calls.{Call, reached, reported, AnsweredWith, Answered, Holds}
+use Rattle.run_claims.specs.Calls.{Call, reached, reported, AnsweredWith, Answered, StepsClaim, Holds}
 
 -- ---- lists of calls
 
--- what a call was lent and what it left
+-- Statement: of a call, what it was lent and what it left.
 abbrev pub callOf : (κs : Lfts 3) (a : ArgsD signature κs) (r : ResD signature κs) (s : AtExit ended κs) → Call
 callOf κs a r s = record { array = now (a .1 .0); work = now (a .1 .1 .0); from = now (a .1 .1 .1 .0); answer = told r; left = now (s .1 .1 .0); to = now (s .1 .1 .1 .0) }
 
--- "The list holds step calls on one plan"; "The first gets position 0, each later one the position as it stood after the call before". Arrays and work areas are any:
--- others may write between calls.
+-- Statement: "The list holds step calls on one plan"; "The first gets position 0, each later one the position as it stood after the call before".
+-- "Each call may be lent any array and any work area": others may write between calls.
 pub data Calls (q : Plan) : List Call → Type 0 where
   start : Calls q []
   one-more : {l : List Call} → Calls q l → (κs : Lfts 3) (a : ArgsD signature κs) (r : ResD signature κs) (s : AtExit ended κs)
@@ -143,20 +144,14 @@ module _ (q : Plan) (sound : Sound (listsOf q)) (some-axes : 1 ≤ length (lists
       let a : t ≡ refused (suc k) = ap (λ (x : Outcome). x .says) e in
       rw a (sym z, (λ n. omega arith), ap (λ (x : Outcome). x .work) e, ap (λ (x : Outcome). x .position) e)
 
--- ---- THE CLAIM, on a plan that the planner returned
+-- ---- the claim, on "one plan that the planner returned": what its callers learned with refusal 0
 
 module _ (κp : Lfts 1) (ap′ : ArgsD plan.signature κp) (rp : ResD plan.signature κp) (sp : AtExit plan.ended κp) (hp : plan-reads.Learnt κp ap′ rp sp) (zero-refusal : rp .refusal ≡ 0) where
-  -- of a whole list of calls:
+  -- Statement: of a whole list of calls,
   pub record Claim (calls : List Call) : Type 0 where
-    -- no call passes T;
-    pub within : reached calls ≤ stepCount (listsOf (rp .plan))
-    -- what the transfers report adds up to at most the planner's values moved,
-    pub at-most : reported calls ≤ rp .prices .moved
-    -- and to exactly that once the position is T;
-    pub exactly : reached calls ≡ stepCount (listsOf (rp .plan)) → reported calls ≡ rp .prices .moved
-    -- every call of the list is refused where a refusal is due, or answers done at T, and both leave memory and position; or it takes exactly the next step, and a transfer reports the sender's cells;
-    pub each : (k : ℕ) (c : Call) → getElem? calls k ≡ some c → Answered (rp .plan) c
-    -- and after every call of the list each board of the rack holds, as held tells, at most what it holds at position 1.
+    -- what the transfers report and every call answers, with the planner's values moved;
+    pub steps : StepsClaim (rp .plan) (rp .prices .moved) calls
+    -- and "After each call the bound on held is for every board below 2^p, at the position reached, against the same board's held at position 1.", as calls of held tell.
     pub holds : (k : ℕ) (c : Call) → getElem? calls k ≡ some c
         → (κ₁ κ₂ : Lfts 0) (a₁ : ArgsD held.signature κ₁) (a₂ : ArgsD held.signature κ₂) (r₁ : ResD held.signature κ₁) (r₂ : ResD held.signature κ₂) (s₁ : AtExit held.ended κ₁) (s₂ : AtExit held.ended κ₂)
         → held-reads.Learnt κ₁ a₁ r₁ s₁ → held-reads.Learnt κ₂ a₂ r₂ s₂ → (b : ℕ) → b < boardCount (listsOf (rp .plan))
@@ -197,18 +192,20 @@ module _ (κp : Lfts 1) (ap′ : ArgsD plan.signature κp) (rp : ResD plan.signa
             bound = λ b k. rw (← t, ← i .there) (claim-held (rp .plan) (runs .sound) (runs .some) (i .calls) b k);
           }
 
-  -- FOR EVERY LIST OF CALLS
+  -- Statement: so of every list of calls.
   pub demand : {calls : List Call} → Calls (rp .plan) calls → Claim calls
   demand {calls} c =
       let i = listed c in
       record {
-        within = inside c;
-        at-most = rw (← i .total, price) (claim-moved (rp .plan) (runs .sound) (runs .some) (i .calls));
-        exactly = λ e. sym (i .total) ∙ claim-all (rp .plan) (runs .sound) (runs .some) (i .calls) (i .there ∙ e) ∙ sym price;
-        each = every (Answered (rp .plan)) (λ l b κs a r s h e p.
-            let at = now (a .1 .1 .1 .0) in
-            answered-by (rp .plan) (runs .sound) (runs .some) (now (a .1 .0)) (now (a .1 .1 .0)) at (rw p (inside b)) (stepRefusal (rp .plan) (length (now (a .1 .0))) (length (now (a .1 .1 .0))) at) refl (told r) (now (s .1 .1 .0)) (now (s .1 .1 .1 .0))
-            (does κs a r s h ∙ ap (λ x. stepping x (now (a .1 .0)) (now (a .1 .1 .0)) at) e ∙ (unfold stepping in refl))) c;
+        steps = record {
+          within = inside c;
+          at-most = rw (← i .total, price) (claim-moved (rp .plan) (runs .sound) (runs .some) (i .calls));
+          exactly = λ e. sym (i .total) ∙ claim-all (rp .plan) (runs .sound) (runs .some) (i .calls) (i .there ∙ e) ∙ sym price;
+          each = every (Answered (rp .plan)) (λ l b κs a r s h e p.
+              let at = now (a .1 .1 .1 .0) in
+              answered-by (rp .plan) (runs .sound) (runs .some) (now (a .1 .0)) (now (a .1 .1 .0)) at (rw p (inside b)) (stepRefusal (rp .plan) (length (now (a .1 .0))) (length (now (a .1 .1 .0))) at) refl (told r) (now (s .1 .1 .0)) (now (s .1 .1 .1 .0))
+              (does κs a r s h ∙ ap (λ x. stepping x (now (a .1 .0)) (now (a .1 .1 .0)) at) e ∙ (unfold stepping in refl))) c;
+        };
         holds = λ k x g κ₁ κ₂ a₁ a₂ r₁ r₂ s₁ s₂ h₁ h₂ b l p₁ p₂ e₁ e₂ f₁ f₂. record {
           here = Held.held (planGrid (rp .plan)) (x .to) b;
           there = Held.held (planGrid (rp .plan)) 1 b;

@@ -1,21 +1,20 @@
--- Demand 2 over the calls of step, view and gather, by what their callers learn: the functions' own contracts, as the check reads them.
-use Prim.Native.Nat.{ℕ, zero, suc, _+_, _*_, _^_, _≤_, _<_}
+-- Demand 2 over the calls of step, view and gather (specs/Exact), by what their callers learn: the functions' own contracts, as the check reads them.
+use Prim.Native.Nat.{ℕ, zero, suc, _+_, _^_, _≤_, _<_}
 use native.Mathlib.Nat.{add-comm, zero-add}
 use mathlib.Core.Path.{_≡_, sym, _∙_, refl, ap, ap₂}
 use mathlib.Core.Option.{Option, none, some}
 use mathlib.Core.List.{List, [], _∷_, _++_}
 use native.Mathlib.Omega.{arith}
 use borrow.Author.Tests.{leb-true, leb-false}
-use lib.Dec.{eqb, leb}
+use lib.Dec.{leb}
 use lib.ListN.{length, take, getElem?}
 use lib.IntN.{ℤ, natAbs}
 use denote.Ref.{now}
 use contract.Lifetimes.{Lfts}
 use borrow.Fn.World.{ArgsD, ResD}
 use denote.Triple.Clauses.{AtExit}
-use Rattle.cube_spec.specs.Limits.{pointLimit}
 use Rattle.cube_spec.specs.Boxes.{pick, table, position}
-use Rattle.cube_spec.specs.Choices.{points, cells, total, totals, fullMask}
+use Rattle.cube_spec.specs.Choices.{cells, total, totals, fullMask}
 use Rattle.plan_spec.specs.Plans.{boardCount, stepCount, listsOf}
 use Rattle.plan_spec.specs.Accepted.{Accepted}
 use Rattle.plan_spec.specs.declared.types.Plan.{Plan}
@@ -24,14 +23,14 @@ use Rattle.rack_spec.specs.Grids.{Grid, gridOf, maskOf, lead, box, global}
 use Rattle.rack_spec.specs.Finding.{planGrid, summedIn}
 use Rattle.rack_spec.specs.Steps.{TreeStep, expand, transfer, finish, steps, finishesMask, timesFinished}
 use Rattle.rack_spec.specs.Held.{finishedAt, finishedBy}
-use Rattle.rack_spec.specs.Answers.{Told, expands, transfers, finishes, done, refused, told, telling, tellingOr, toldAt}
+use Rattle.rack_spec.specs.Answers.{Told, finishes, done, told, telling, tellingOr, toldAt}
 use Rattle.cube_spec.proofs.Sums.{by}
 use Rattle.plan_spec.proofs.Accepting.{accepted}
 use Rattle.rack_spec.proofs.Counting.{steps-length}
 use Rattle.rack_spec.proofs.Masks.{each-choice-once, no-other-choice}
 use Rattle.rack_spec.proofs.Tallied.{lawful}
 use Rattle.run_spec.specs.Memory.{read, stepped, ran}
-use Rattle.run_spec.specs.Entries.{Outcome, outcome, taken, workCells, stepOr, stepRefusal, stepping, viewRefusal, viewOf, viewing, gatherRefusal, gathering}
+use Rattle.run_spec.specs.Entries.{Outcome, outcome, taken, workCells, stepOr, stepping, viewRefusal, viewOf, viewing, gatherRefusal, gathering}
 use Rattle.run_spec.specs.Gather.{gathered, viewed}
 use Rattle.run_spec.proofs.Gathers.{gather-passed, gathered-some}
 use Rattle.run_spec.proofs.Shown.{view-passed, shown, finished-is}
@@ -39,6 +38,7 @@ use Rattle.run_spec.specs.Taking.{toldBefore}
 use Rattle.run_spec.proofs.Stepped.{Passed, passed}
 use Rattle.run_spec.proofs.Refusing.{step-passed}
 use Rattle.run_spec.proofs.Lists.{ran-length}
+use Rattle.run_claims.specs.Exact.{Begins, finishesOnce, timesSaid, Reached}
 use Rattle.run_claims.proofs.Called.{does, found-lt, found-none}
 use Rattle.run_spec.proofs.Positions.{take-next, gathered-at, viewed-at}
 use Rattle.run_gather.proofs.copying.gather as gather
@@ -50,19 +50,7 @@ use Rattle.run_view.proofs.viewing.view_refusal.Reads as view-refusal-reads
 use Rattle.run_step.proofs.stepping.step.{signature, ended}
 use Rattle.run_step.proofs.stepping.step.Reads as reads
 
--- how often answers finish a mask
-abbrev finishesOnce : ℕ → Told → ℕ
-finishesOnce mask (expands m) = 0
-finishesOnce mask (transfers s r m n) = 0
-finishesOnce mask (finishes m) = pick (eqb m mask) 1 0
-finishesOnce mask done = 0
-finishesOnce mask (refused n) = 0
-
-unfoldable pub timesSaid : ℕ → List Told → ℕ
-timesSaid mask [] = 0
-timesSaid mask (t ∷ l) = finishesOnce mask t + timesSaid mask l
-
--- Calls from position 0 on a work area of any contents, while no one else writes to it: the position, the work area and the answers, the newest first.
+-- Statement: calls from position 0 on a work area of any contents, while no one else writes to it: the position, the work area and the answers, the newest first.
 pub data Run (q : Plan) (array work₀ : List ℤ) : ℕ → List ℤ → List Told → Type 0 where
   start : Run q array work₀ 0 work₀ []
   one-more : {at : ℕ} {w : List ℤ} {l : List Told} → Run q array work₀ at w l → (κs : Lfts 3) (a : ArgsD signature κs) (r : ResD signature κs) (s : AtExit ended κs)
@@ -91,23 +79,6 @@ record Named (g : Grid) (at mask : ℕ) : Type 0 where
   set : List ℕ
   there : finishedAt g at ≡ some set
   mask-is : maskOf g set ≡ mask
-
--- where a run is: as many steps as calls have been taken, or all of them; the answers told them, the newest the last one
-pub record Reached (q : Plan) (array work₀ : List ℤ) (at : ℕ) (w : List ℤ) (l : List Told) : Type 0 where
-  pub within : at ≤ length (steps (planGrid q))
-  pub there : w ≡ ran (planGrid q) array (take at (steps (planGrid q))) work₀
-  pub said : (mask : ℕ) → timesSaid mask l ≡ timesFinished (planGrid q) mask (take at (steps (planGrid q)))
-  pub paced : length l ≤ length (steps (planGrid q)) → at ≡ length l
-  pub ends : length (steps (planGrid q)) ≤ length l → at ≡ length (steps (planGrid q))
-  pub newest : (mask : ℕ) (r : List Told) → l ≡ finishes mask ∷ r → finishes mask ≡ toldBefore (planGrid q) at
-  pub stops : (r : List Told) → l ≡ done ∷ r → at ≡ length (steps (planGrid q))
-
--- WHAT A RUN STARTS FROM: a plan, an array and a work area that step accepts at position 0. That a plan's arrays have eight slots is what their types say.
-pub record Begins (q : Plan) (array work₀ : List ℤ) : Type 0 where
-  pub lengths : length (q .lengths) ≡ 8
-  pub order : length (q .order) ≡ 8
-  pub exponents : length (q .exponents) ≡ 8
-  pub accepted : stepRefusal q (length array) (length work₀) 0 ≡ 0
 
 module _ (q : Plan) (array work₀ : List ℤ) (begins : Begins q array work₀) where
   abbrev g : Grid
@@ -188,7 +159,7 @@ module _ (q : Plan) (array work₀ : List ℤ) (begins : Begins q array work₀)
       let z = step-passed q (length array) (length w) at (first-call .plan) (first-call .all) (omega arith) (omega arith) in
       rw (← z) refl
 
-  -- WHERE A RUN IS
+  -- Statement: where a run is.
   pub run-reached : {at : ℕ} {w : List ℤ} {l : List Told} → Run q array work₀ at w l → Reached q array work₀ at w l
   run-reached start = record {
     within = omega arith;
@@ -213,19 +184,19 @@ module _ (q : Plan) (array work₀ : List ℤ) (begins : Begins q array work₀)
   whole (s ∷ l) zero e = absurd (omega arith)
   whole (s ∷ l) (suc n) e = ap (λ r. s ∷ r) (whole l n (omega arith))
 
-  -- T CALLS OR MORE END A RUN, and so does an answer `done`.
+  -- Statement: T calls or more end a run, and so does an answer `done`.
   pub ended-by-calls : {at : ℕ} {w : List ℤ} {l : List Told} → Run q array work₀ at w l → stepCount (listsOf q) ≤ length l → at ≡ stepCount (listsOf q)
   ended-by-calls run h = let c = count in run-reached run .ends (omega arith) ∙ c
 
   pub ended-by-done : {at : ℕ} {w : List ℤ} {l : List Told} → Run q array work₀ at w (done ∷ l) → at ≡ stepCount (listsOf q)
   ended-by-done {at} {w} {l} run = run-reached run .stops l refl ∙ count
 
-  -- EACH CHOICE BUT THE FULL ONE IS FINISHED EXACTLY ONCE, by the answers of a run that has ended,
+  -- Statement: each choice but the full one is finished exactly once, by the answers of a run that has ended,
   pub each-once : {at : ℕ} {w : List ℤ} {l : List Told} → Run q array work₀ at w l → at ≡ stepCount (listsOf q) → (mask : ℕ) → mask < fullMask (length (listsOf q .lengths)) → timesSaid mask l ≡ 1
   each-once {at} run e mask h =
       run-reached run .said mask ∙ ap (timesFinished g mask) (whole (steps g) at (e ∙ sym count)) ∙ each-choice-once (listsOf q) (ok .sound) mask h
 
-  -- and nothing else ever is.
+  -- Statement: and nothing else ever is.
   pub none-else : {at : ℕ} {w : List ℤ} {l : List Told} → Run q array work₀ at w l → at ≡ stepCount (listsOf q) → (mask : ℕ) → fullMask (length (listsOf q .lengths)) ≤ mask → timesSaid mask l ≡ 0
   none-else {at} run e mask h =
       run-reached run .said mask ∙ ap (timesFinished g mask) (whole (steps g) at (e ∙ sym count)) ∙ no-other-choice (listsOf q) (ok .sound) mask h
@@ -242,7 +213,7 @@ module _ (q : Plan) (array work₀ : List ℤ) (begins : Begins q array work₀)
       go (some (transfer Y s r n)) f e = absurd (let z : _≡_ {A = ℕ} 0 1 = cc in omega arith)
       go (some (finish Y)) f e = record { set = Y; there = unfold finishedAt in ap finishedBy f; mask-is = (let y : mask ≡ maskOf g Y = cc in sym y) }
 
-  -- AFTER A CALL THAT ANSWERS A FINISH. That points are at most 2^31 in size is what their type, i32, says.
+  -- After a call that answers a finish. That points are at most 2^31 in size is what their type, i32, says.
   module _ (small : (i : ℕ) → natAbs (read array i) ≤ 2 ^ 31) {at : ℕ} {w : List ℤ} {l : List Told} {mask : ℕ} (run : Run q array work₀ at w (finishes mask ∷ l)) where
     kept-room : workCells (listsOf q) ≤ length w
     kept-room = let n : length w ≡ length work₀ = ap length (run-reached run .there) ∙ ran-length g (lawful q ok) axes-some array (take at (steps g)) work₀ in let r = first-call .room in omega arith
@@ -256,7 +227,7 @@ module _ (q : Plan) (array work₀ : List ℤ) (begins : Begins q array work₀)
     abbrev Y : List ℕ
     Y = name .set
 
-    -- WHAT GATHER GIVES: no refusal, and the exact totals of the choice
+    -- Statement: what gather gives, no refusal and the exact totals of the choice.
     pub gathered-run : (κs : Lfts 2) (a : ArgsD gather.signature κs) (r : ResD gather.signature κs) (s : AtExit gather.ended κs) → gather-reads.Learnt κs a r s → a .0 ≡ q → now (a .1 .0) ≡ w → a .1 .1 .0 ≡ at → length (now (a .1 .1 .1 .0)) ≡ cells (listsOf q .lengths) mask
         → (r ≡ 0) × (now (s .1 .1 .1 .0) ≡ totals (listsOf q .lengths) (read array) mask)
     gathered-run κs a r s h e v p n =
@@ -274,7 +245,7 @@ module _ (q : Plan) (array work₀ : List ℤ) (begins : Begins q array work₀)
               ∙ ap (totals (listsOf q .lengths) (read array)) d,
         )
 
-    -- NO VIEW OF A BOARD OF THE RACK IS REFUSED
+    -- Statement: no view of a board of the rack is refused.
     pub viewed-granted : (κs : Lfts 1) (a : ArgsD view-refusal.signature κs) (r : ResD view-refusal.signature κs) (s : AtExit view-refusal.ended κs) → view-refusal-reads.Learnt κs a r s → a .0 ≡ q → now (a .1 .0) ≡ w → a .1 .1 .0 ≡ at → a .1 .1 .1 .0 < boardCount (listsOf q) → r ≡ 0
     viewed-granted κs a r s h e v p n =
         h
@@ -282,7 +253,7 @@ module _ (q : Plan) (array work₀ : List ℤ) (begins : Begins q array work₀)
         ∙ ap (λ at. viewRefusal q (length w) at (a .1 .1 .1 .0)) p
         ∙ sym (view-passed q (length w) at (a .1 .1 .1 .0) (first-call .plan) kept-room kept-within (let f = name .there in rw f refl) n)
 
-    -- WHAT VIEW SHOWS: on a lead of the choice the exact totals at the positions of its cells, on another board nothing
+    -- Statement: what view shows, on a lead of the choice the exact totals at the positions of its cells, on another board nothing.
     pub viewed-run : (κs : Lfts 1) (a : ArgsD view.signature κs) (r : ResD view.signature κs) (s : AtExit view.ended κs) → view-reads.Learnt κs a r s → a .0 ≡ q → now (a .1 .0) ≡ w → a .1 .1 .0 ≡ at → a .1 .1 .1 .0 < boardCount (listsOf q)
         → now r ≡ pick (lead g (summedIn q mask) (a .1 .1 .1 .0)) (table (Grids.cells g (summedIn q mask) (a .1 .1 .1 .0)) (λ c. total (listsOf q .lengths) (read array) mask (λ d. global g (a .1 .1 .1 .0) (position (box g (summedIn q mask) (a .1 .1 .1 .0)) (g .axes) 0 c) (g .rank d)))) []
     viewed-run κs a r s h e v p n =

@@ -1,8 +1,9 @@
 -- Calls of step in a list, and what demand 3 says of each of them.
 use Prim.Native.Nat.{ℕ, _+_, _≤_, _<_}
 use mathlib.Core.Path.{_≡_}
+use mathlib.Core.Option.{some}
 use mathlib.Core.List.{List, [], _∷_}
-use lib.ListN.{length}
+use lib.ListN.{length, getElem?}
 use lib.IntN.{ℤ}
 use Rattle.cube_spec.specs.Checks.{Reply, gives}
 use Rattle.plan_spec.specs.Plans.{stepCount, listsOf}
@@ -46,6 +47,18 @@ AnsweredWith q n work at work′ at′ (transfers s r m v) = (stepRefusal q n (l
 
 abbrev pub Answered : Plan → Call → Type 0
 Answered q c = AnsweredWith q (length (c .array)) (c .work) (c .from) (c .left) (c .to) (c .answer)
+
+-- "What demand 3 says of steps is a single claim about the whole list of calls, and not one for each call.": of the calls on the plan q, whose values moved are `moved`
+pub record StepsClaim (q : Plan) (moved : ℕ) (calls : List Call) : Type 0 where
+  -- no call passes T;
+  pub within : reached calls ≤ stepCount (listsOf q)
+  -- what the transfers report adds up to at most the values moved,
+  pub at-most : reported calls ≤ moved
+  -- and to exactly that once the position is T: "The last step is taken when the position is T.";
+  pub exactly : reached calls ≡ stepCount (listsOf q) → reported calls ≡ moved
+  -- and every call of the list is refused where a refusal is due, or answers done at T, and both leave memory and position; or it takes exactly the next step, and a
+  -- transfer reports the sender's cells.
+  pub each : (k : ℕ) (c : Call) → getElem? calls k ≡ some c → Answered q c
 
 -- two replies of held that both give a number, the first at most the second
 pub record Holds (first second : Reply ℕ) : Type 0 where

@@ -1,4 +1,4 @@
--- Over an accepted array a run from position 0 never wraps: it leaves what exact sums leave.
+-- "over an accepted array from position 0 they never wrap": a run leaves what exact sums leave (`plainRan`).
 use Prim.Native.Nat.{ℕ, zero, suc, _+_, _-_, _*_, _%_, _^_, _≤_, _<_}
 use mathlib.Core.Path.{_≡_, sym, _∙_, refl, ap, ap₂, fun-ext}
 use mathlib.Core.Bool.{true, false, _&&_, not}
@@ -16,7 +16,7 @@ use Rattle.cube_spec.specs.Limits.{pointLimit}
 use Rattle.cube_spec.specs.Boxes.{pick, sumZ, table, put, place, position, Within}
 use Rattle.cube_spec.specs.Choices.{points, pointPosition, agrees}
 use Rattle.cube_spec.specs.Tree as Tree
-use Rattle.cube_spec.specs.Tree.{has, next, lastOf}
+use Rattle.cube_spec.specs.Tree.{has, next}
 use Rattle.cube_spec.proofs.Sums.{by, sum-cong, sum-none}
 use Rattle.cube_spec.proofs.Naturals.{both}
 use Rattle.cube_spec.proofs.Boxing.{position-lt, place-position}
@@ -29,6 +29,7 @@ use Rattle.rack_spec.proofs.Boards.{start-zero, start-next, sender-cells, sende
 use Rattle.rack_spec.proofs.Every.{Every, every-first}
 use Rattle.cell_spec.specs.Wrapped.{wrapped}
 use Rattle.run_spec.specs.Memory.{source, formed, forms, after, read, stepped, ran}
+use Rattle.run_spec.specs.Plain.{plain, plainStepped, plainRan}
 use Rattle.cell_spec.proofs.Modulo.{wrapped-fits, sum-fits, pick-small}
 use Rattle.run_spec.proofs.Totals.{Law, totalAt, totals-law, totals-along, total-put, keeps-order, keeps-other, order-below}
 use Rattle.run_spec.proofs.Runs as Runs
@@ -36,22 +37,6 @@ use Rattle.run_spec.proofs.Runs.{Final, Sending, piece, Exact, parent-w
 use Rattle.run_spec.proofs.Lists.{Sent, sent-steps, share-pos, stepped-reads, stepped-length, total-small}
 use Rattle.run_spec.proofs.Ranges.{index-spot}
 use Rattle.run_spec.proofs.Delivered.{area-fits}
-
--- ---- a step with exact sums: `after` with nothing wrapped
-
-unfoldable pub plain : Grid → (ℕ → ℤ) → TreeStep → (ℕ → ℤ) → (ℕ → ℤ)
-plain g array (expand Y) work i =
-    pick (forms g Y (boardOf g i) (regionOf g i) (cellOf g i)) (sumZ (extent g (boardOf g i) (regionOf g i)) (λ m. source g array work Y (boardOf g i) (put (position (box g (regionOf g i ∷ Y) (boardOf g i)) (g .axes) 0 (cellOf g i)) (regionOf g i) m))) (work i)
-plain g array (transfer Y s r n) work i =
-    pick (eqb (boardOf g i) r && (eqb (regionOf g i) (lastOf Y) && ltb (cellOf g i) n)) (work i +ℤ work (index g s (regionOf g i) (cellOf g i))) (work i)
-plain g array (finish Y) work i = work i
-
-unfoldable pub plainStepped : Grid → List ℤ → TreeStep → List ℤ → List ℤ
-plainStepped g array m work = table (length work) (plain g (read array) m (read work))
-
-unfoldable pub plainRan : Grid → List ℤ → List TreeStep → List ℤ → List ℤ
-plainRan g array [] work = work
-plainRan g array (m ∷ l) work = plainRan g array l (plainStepped g array m work)
 
 -- ---- every index is in a region
 

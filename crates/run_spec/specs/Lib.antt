@@ -1,4 +1,5 @@
 pub mod Memory
+pub mod Plain
 pub mod Gather
 pub mod Entries
 pub mod Taking

@@ -22,8 +22,8 @@ use Rattle.report_spec.specs.Text.{text}
 use Rattle.report_spec.specs.Printed as Printed
 use Rattle.report_spec.specs.Printed.{planLine, dimLine, dimLines, groupLine, groupLines, endLine, refusedLine, report, reportOr, programRefusal, printedLines, lineAt, joined, printed}
 use Rattle.totals_check.specs.Judging.{judging}
+use Rattle.totals.specs.Handed.{Begins}
 use Rattle.totals_line.specs.Standing.{campaignOf, Stands}
-use Rattle.totals_group.specs.Grouped.{Small}
 use Rattle.totals_line.proofs.Lined.{begins, lines-few}
 use Rattle.totals_check.proofs.judging.judge as judge
 use Rattle.totals_check.proofs.judging.judge.Reads as judge-reads
@@ -137,15 +137,7 @@ stands-as t t′ j j′ k k′ p p′ w w′ at at′ a b c d e f s = rw (a, b, 
 
 -- ---- runs
 
--- WHAT A RUN STARTS FROM: the judgement of a tape, the points of its campaign where it is taken, and a work area of 8,192 cells that hold anything.
--- That a point is at most 2^31 in size is what its type says.
-pub record Begins (tape : List ℕ) (judged : Planned) (points work₀ : List ℤ) : Type 0 where
-  pub judgement : judged ≡ judging tape
-  pub loaded : judged .refusal ≡ 0 → points ≡ campaignOf tape .points
-  pub small : Small points
-  pub room : length work₀ ≡ 8192
-
--- Calls of next_line on one tape, one after the other. Of each call a is its arguments (tape, judged, handed, points, work, position, cells, out), r its answer and s the arguments at
+-- Statement: calls of next_line on one tape, one after the other. Of each call a is its arguments (tape, judged, handed, points, work, position, cells, out), r its answer and s the arguments at
 -- exit; where what it asks is met, its callers learn what it ensures. `handed` is the number of calls before, and the work area and the position are as the call before left them; the
 -- cells and the buffer that it is lent hold anything. The run's indices: work area, position, the answers, the newest first, and the bytes handed out, after an answer r the first r of the buffer.
 pub data Run (tape : List ℕ) (judged : Planned) (points work₀ : List ℤ) : List ℤ → ℕ → List ℕ → List ℕ → Type 0 where
@@ -156,7 +148,7 @@ pub data Run (tape : List ℕ) (judged : Planned) (points work₀ : List ℤ) : 
       → length (now (a .1 .1 .1 .1 .1 .1 .0)) ≡ 8192 → length (now (a .1 .1 .1 .1 .1 .1 .1 .0)) ≡ 172064
       → Run tape judged points work₀ (now (s .1 .1 .1 .1 .0)) (now (s .1 .1 .1 .1 .1 .0)) (r ∷ answers) (bytes ++ take r (now (s .1 .1 .1 .1 .1 .1 .1 .0)))
 
--- FOR EVERY TAPE, one that is refused included:
+-- For every tape, one that is refused included:
 module _ (tape : List ℕ) (judged : Planned) (points work₀ : List ℤ) (from : Begins tape judged points work₀) where
   -- each answer is the length of its line
   abbrev Lengths : List ℕ → Type 0
@@ -186,11 +178,11 @@ module _ (tape : List ℕ) (judged : Planned) (points work₀ : List ℤ) (from 
         lengths = (m .0 ∙ ap length line, i .lengths);
       }
 
-  -- AFTER k CALLS THE BYTES HANDED OUT ARE THE FIRST k LINES, one after the other.
+  -- Statement: after k calls the bytes handed out are the first k lines, one after the other.
   pub handed-lines : {work : List ℤ} {at : ℕ} {answers bytes : List ℕ} → Run tape judged points work₀ work at answers bytes → bytes ≡ joined (take (length answers) (printedLines tape))
   handed-lines run = reached run .lines
 
-  -- A CALL ANSWERS 0 EXACTLY WHEN ALL LINES WERE HANDED OUT BEFORE IT: only then,
+  -- Statement: a call answers 0 exactly when all lines were handed out before it: only then,
   pub zero-after-all : {work : List ℤ} {at : ℕ} {answers bytes : List ℕ} → Run tape judged points work₀ work at (0 ∷ answers) bytes → length (printedLines tape) ≤ length answers
   zero-after-all {answers = answers} run = by (ltb (length answers) (length (printedLines tape)))
       (λ t. absurd (let f = line-filled tape (length answers) (ltb-true _ _ t) in let e = reached run .lengths .0 in omega arith))
@@ -204,12 +196,12 @@ module _ (tape : List ℕ) (judged : Planned) (points work₀ : List ℤ) (from 
   pub before-more : {work : List ℤ} {at r : ℕ} {answers bytes : List ℕ} → Run tape judged points work₀ work at (r ∷ answers) bytes → length answers < length (printedLines tape) → 0 < r
   before-more {answers = answers} run h = let f = line-filled tape (length answers) h in let e = reached run .lengths .0 in omega arith
 
-  -- AS SOON AS A CALL ANSWERS 0, THE BYTES HANDED OUT OVER THE WHOLE RUN, one after the other, ARE THE DEFINITION'S PRINTED OUTPUT, byte for byte.
+  -- Statement: as soon as a call answers 0, the bytes handed out over the whole run, one after the other, are the definition's printed output, byte for byte.
   pub handed-all : {work : List ℤ} {at : ℕ} {answers bytes : List ℕ} → Run tape judged points work₀ work at (0 ∷ answers) bytes → bytes ≡ printed tape
   unfolding printed
   handed-all {answers = answers} run = let h = zero-after-all run in handed-lines run ∙ ap joined (take-all (suc (length answers)) (printedLines tape) (omega arith))
 
-  -- A CALLER THAT GOES ON UNTIL THE FIRST 0 hands out every line once: it made one call for each line, and the one that answers 0.
+  -- Statement: a caller that goes on until the first 0 hands out every line once: it made one call for each line, and the one that answers 0.
   pub one-call-a-line : {work : List ℤ} {at : ℕ} {answers bytes : List ℕ} → Run tape judged points work₀ work at (0 ∷ answers) bytes → ((i : ℕ) → i < length answers → 0 < getD answers i 0) → length answers ≡ length (printedLines tape)
   one-call-a-line {answers = answers} run h = let z = zero-after-all run in let f = most answers (reached run .lengths .1) h in omega arith
     where
@@ -219,11 +211,11 @@ module _ (tape : List ℕ) (judged : Planned) (points work₀ : List ℤ) (from 
           (λ t. ltb-true (length l) (length (printedLines tape)) t)
           (λ t. absurd (let n = line-none tape (length l) (ltb-false _ _ t) in let m = h 0 (omega arith) in let x = e .0 in omega arith))
 
-  -- It comes to that end: no report has more than 300 lines.
+  -- Statement: it comes to that end, no report has more than 300 lines.
   pub soon-zero : {work : List ℤ} {at r : ℕ} {answers bytes : List ℕ} → Run tape judged points work₀ work at (r ∷ answers) bytes → 300 ≤ length answers → r ≡ 0
   soon-zero run h = after-all-zero run (let f = lines-few tape judged (from .judgement) in omega arith)
 
-  -- THE NEXT CALL after a run: what next_line asks is met, and the bytes it hands out are exactly the next line.
+  -- Statement: of the next call after a run, what next_line asks is met, and the bytes it hands out are exactly the next line.
   module _ {work : List ℤ} {at : ℕ} {answers bytes : List ℕ} (run : Run tape judged points work₀ work at answers bytes) (κs : Lfts 6) (a : ArgsD signature κs)
       (t : now (a .0) ≡ tape) (j : a .1 .0 ≡ judged) (k : a .1 .1 .0 ≡ length answers) (p : now (a .1 .1 .1 .0) ≡ points) (w : now (a .1 .1 .1 .1 .0) ≡ work) (n : now (a .1 .1 .1 .1 .1 .0) ≡ at)
       (c : length (now (a .1 .1 .1 .1 .1 .1 .0)) ≡ 8192) (o : length (now (a .1 .1 .1 .1 .1 .1 .1 .0)) ≡ 172064) where
@@ -233,7 +225,7 @@ module _ (tape : List ℕ) (judged : Planned) (points work₀ : List ℤ) (from 
     pub next-handed : (r : ResD signature κs) (s : AtExit ended κs) → reads.Learnt κs a r s → take r (now (s .1 .1 .1 .1 .1 .1 .1 .0)) ≡ lineAt tape (length answers)
     next-handed r s m = line-there (now (a .0)) (a .1 .1 .0) _ _ r (m .0) (m .1) (m .2) ∙ ap₂ lineAt t k
 
--- WHAT A RUN STARTS FROM IS WHAT THE PROGRAM'S CALLS OF judge, load AND bounded LEAVE, by what their callers learn: for every tape, over a work area of any contents.
+-- Statement: what a run starts from is what the program's calls of judge, load and bounded leave, by what their callers learn: for every tape, over a work area of any contents.
 pub begun : (κj : Lfts 1) (aj : ArgsD judge.signature κj) (rj : ResD judge.signature κj) (sj : AtExit judge.ended κj) → judge-reads.Learnt κj aj rj sj
     → (κl : Lfts 2) (al : ArgsD load.signature κl) (rl : ResD load.signature κl) (sl : AtExit load.ended κl) → (load-reads.Asked κl al → load-reads.Learnt κl al rl sl)
     → now (al .0) ≡ now (aj .0) → al .1 .0 ≡ rj → length (now (al .1 .1 .0)) ≡ 8192

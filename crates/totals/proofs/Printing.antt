@@ -1,4 +1,5 @@
--- WHAT THE PROGRAM LEARNS OF ITS ONE CALL OF print, by the function's own contract, as the check reads it: of every input whose first bytes the space has, as many as there is room for.
+-- Statement: what the program learns of its one call of print, by the function's own contract, as the check reads it: of every input whose first bytes the space has, as
+-- many as there is room for.
 use Prim.Native.Nat.{ℕ, _≤_, _<_}
 use mathlib.Core.Path.{_≡_}
 use mathlib.Core.Bool.{true, false}
