@@ -37,7 +37,7 @@ bytesOf q = q .axes ∷ q .p ∷ (q .order ++ q .exponents)
 
 -- ---- the refusals
 
--- some checks, and then 13 for "a lent result slice has the wrong length": `lent` cells where `due` are to be written
+-- some checks, and then 13, "A lent result slice has the wrong length.": `lent` cells where `due` are to be written
 unfoldable pub lentRefusal : List Check → ℕ → ℕ → ℕ
 lentRefusal checks due lent = first (checks ++ (check 13 (not (eqb lent due)) ∷ []))
 

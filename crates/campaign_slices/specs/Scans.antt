@@ -15,7 +15,7 @@ cells = 11
 unfoldable pub cellsOf : Scan → List ℕ
 cellsOf s = s .axes ∷ s .p ∷ s .points ∷ s .lengths
 
--- the scan's refusals, and 13 for "a lent result slice has the wrong length"
+-- the scan's refusals, and 13, "A lent result slice has the wrong length."
 unfoldable pub lentScanRefusal : List ℕ → ℕ → ℕ
 lentScanRefusal tape out = first (scanChecks tape ++ (check 13 (not (eqb out cells)) ∷ []))
 

@@ -55,7 +55,7 @@ unfoldable pub agrees : List ℕ → ℕ → ℕ → (ℕ → ℕ) → ℕ → B
 agrees ds mask q x zero = true
 agrees ds mask q x (suc m) = (not (keeps mask m) || eqb (pointPosition ds q m) (x m)) && agrees ds mask q x m
 
--- Demand 2, "each total is the exact sum of all points that share its positions": over all points, those that share the positions x on the kept axes
+-- Demand 2: a total is the exact sum of all points that share its positions x on the kept axes
 unfoldable pub total : List ℕ → (ℕ → ℤ) → ℕ → (ℕ → ℕ) → ℤ
 total ds array mask x = sumZ (points ds) (λ q. pick (agrees ds mask q x (length ds)) (array q) (pos 0))
 

@@ -1,4 +1,4 @@
--- What demand 3 says of steps: one claim about a whole list of calls from position 0, on one plan.
+-- A part of demand 3's claim about a whole list of calls (run_claims states it over the calls themselves): by the list of steps and which calls are accepted.
 use Prim.Native.Nat.{ℕ, zero, suc, _+_, _≤_, _<_}
 use mathlib.Core.Path.{_≡_, sym, _∙_, refl, ap}
 use mathlib.Core.Bool.{Bool, true, false}

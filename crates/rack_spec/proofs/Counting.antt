@@ -1,4 +1,4 @@
--- The list of steps is as long as the count says.
+-- The list of steps is as long as the count says, and a sound plan has 2^p boards.
 use Prim.Native.Nat.{ℕ, zero, suc, _+_, _-_, _*_, _^_, _≤_, _<_}
 use mathlib.Core.Path.{_≡_, sym, _∙_, refl, ap, ap₂}
 use mathlib.Core.Bool.{Bool, true, false}

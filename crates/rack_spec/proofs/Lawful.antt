@@ -1,4 +1,4 @@
--- A sound plan's grid is lawful, and has 2^p boards.
+-- A sound plan's grid is lawful.
 use Prim.Native.Nat.{ℕ, zero, suc, _+_, _*_, _^_, _≤_, _<_}
 use mathlib.Core.Path.{_≡_, sym, _∙_, refl, ap}
 use native.Mathlib.Omega.{arith}

@@ -81,7 +81,7 @@ module _ (g : Grid) (ok : Lawful g) where
   leads-cells Z h =
       sumN-cong (product (g .parts) (g .axes) 0) (λ b _. lead-product Z b h) ∙ product-sum (g .parts) (share-of Z) (g .axes) 0 ∙ product-cong (g .axes) 0 (λ i l r. share-sum Z i (omega arith))
 
-  -- ---- the valuesOf that transfers move
+  -- ---- the values that transfers move
 
   values-append : (a b : List TreeStep) → values (a ++ b) ≡ values a + values b
   unfolding values

@@ -1,4 +1,4 @@
--- The walk takes the children of a choice from right to left, and an expansion forms just these.
+-- The walk takes the children of a choice from right to left.
 use Prim.Native.Nat.{ℕ, zero, suc, _+_, _-_, _≤_, _<_}
 use mathlib.Core.Path.{_≡_, sym, _∙_, refl, ap, ap₂}
 use mathlib.Core.List.{List, [], _∷_, _++_}

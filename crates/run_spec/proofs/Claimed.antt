@@ -1,4 +1,4 @@
--- The claim of demand 3 over lists of step calls, by what the entry answers and leaves.
+-- A part of demand 3's claim about a whole list of calls (run_claims states it over the calls themselves): by what the entry's definition answers and leaves.
 use Prim.Native.Nat.{ℕ, zero, suc, _+_, _≤_, _<_}
 use mathlib.Core.Path.{_≡_, sym, _∙_, refl, ap, ap₂}
 use mathlib.Core.Bool.{Bool}

@@ -1,4 +1,4 @@
--- Gathering in code: a lead's copy, by what the code's functions give.
+-- Gathering in code: a lead's copy, by what the code's functions give, and the refusals of gathering.
 use Prim.Native.Nat.{ℕ, zero, suc, _+_, _-_, _*_, _≤_, _<_}
 use mathlib.Core.Path.{_≡_, sym, _∙_, refl, ap, ap₂}
 use mathlib.Core.Bool.{Bool, true, false, _||_, not}

@@ -1,4 +1,4 @@
--- The same for a work area that is a list, as the engine is lent one; and over an accepted array no total wraps.
+-- A run's exact totals for a work area that is a list, as the engine is lent one; and over an accepted array no total wraps.
 use Prim.Native.Nat.{ℕ, _*_, _^_, _≤_, _<_}
 use mathlib.Core.Path.{_≡_, sym, _∙_, refl, ap, fun-ext}
 use mathlib.Core.List.{List, [], _∷_, _++_}

@@ -1,4 +1,4 @@
--- The same by position: what is gathered and viewed at a position that follows a finish.
+-- What is gathered and viewed at a position that follows a finish: the choice's exact totals.
 use Prim.Native.Nat.{ℕ, zero, suc, _*_, _^_, _≤_, _<_}
 use mathlib.Core.Path.{_≡_, ap}
 use mathlib.Core.Option.{Option, none, some}
