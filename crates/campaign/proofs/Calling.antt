@@ -1,8 +1,8 @@
 -- Laws of what planning, step, view and gather leave in what a caller in C lends.
-use Prim.Native.Nat.{ℕ, zero, suc, _≤_, _<_}
-use mathlib.Core.Path.{_≡_, refl, sym, ap, _∙_}
-use mathlib.Core.Bool.{Bool, true, false, _||_, not}
-use mathlib.Core.List.{List, [], _∷_, _++_}
+use Prim.Native.Nat.{ℕ, zero, suc}
+use mathlib.Core.Path.{_≡_, refl, sym, ap, ap₂, _∙_}
+use mathlib.Core.Bool.{Bool, true, false}
+use mathlib.Core.List.{List, [], _∷_}
 use native.Mathlib.Omega.{arith}
 use borrow.Author.Tests.{eq-eqb, ne-eqb, eqb-true, eqb-false}
 use lib.Dec.{eqb}
@@ -12,11 +12,12 @@ use Rattle.cube_spec.specs.Checks.{check, first}
 use Rattle.plan_spec.specs.declared.types.Plan.{Plan}
 use Rattle.plan_spec.specs.declared.types.Prices.{Prices}
 use Rattle.plan_spec.specs.declared.types.Planned.{Planned}
-use Rattle.plan_spec.specs.Plans.{PlanLists, slotted}
+use Rattle.plan_spec.specs.Plans.{slotted}
 use Rattle.plan_spec.specs.Rule.{planOf}
 use Rattle.plan_spec.specs.Refusals.{planChecks, lengthChecks, planningChecks, planningRefusal, planRefusal}
-use Rattle.plan_spec.specs.Answers.{plannedAs, planning}
+use Rattle.plan_spec.specs.Answers.{pricesOf, plannedAs, planning}
 use Rattle.plan_spec.proofs.Accepting.{padded-length, planning-accepted, planned-accepted}
+use Rattle.plan_spec.proofs.Answering.{refusal-of, plan-of, prices-of}
 use Rattle.plan_spec.proofs.Demand.{plan-sound}
 use Rattle.cube_spec.proofs.Sums.{by}
 use Rattle.rack_spec.proofs.Refusing.{Numbered, first-due, first-passed}
@@ -29,7 +30,7 @@ use Rattle.run_view.proofs.Placed.{shown-part}
 use Rattle.campaign_slices.specs.Scans.{writtenOr}
 use Rattle.campaign_slices.specs.Racks.{planFrom, bytesOf, lentRefusal, cellsTold, cellsPriced}
 use Rattle.campaign_slices.proofs.Racking as racking
-use Rattle.campaign.specs.Calls.{wrongSlices, makeRefusal, Made, made, madeOr, making, runRefusal, Ran, ran, ranOr, running, cellsPart, partRefusal, parting}
+use Rattle.campaign.specs.Calls.{wrongSlices, makeRefusal, made, madeOr, making, readBack, runRefusal, ran, ranOr, running, cellsPart, partRefusal, parting}
 
 -- ---- planning
 
@@ -38,16 +39,10 @@ module _ (ds : List ℕ) (p : ℕ) (small slots prices : List ℕ) where
   unfolding planningChecks lengthChecks
   planning-numbered = (omega arith, (omega arith, (omega arith, (omega arith, (omega arith, tt)))))
 
-  -- the refusal that stands in the answer of planning is planning's
-  answered-is : (n : ℕ) (a : PlanLists) → plannedAs n a .refusal ≡ n
-  unfolding plannedAs
-  answered-is zero a = refl
-  answered-is (suc n) a = refl
-
   module _ (f : Planned) (e : f ≡ planning ds p) where
     refusal-is : f .refusal ≡ planningRefusal ds p
     unfolding planning
-    refusal-is = ap (λ (x : Planned). x .refusal) e ∙ answered-is _ _
+    refusal-is = ap (λ (x : Planned). x .refusal) e ∙ refusal-of _ _
 
     left : (n : ℕ) (a : Planned) → (n ≡ 0 → ⊥) → made n small slots prices ≡ madeOr n a small slots prices
     unfolding madeOr
@@ -165,13 +160,14 @@ module _ (g q : Plan) (e : g ≡ q) where
 
 -- ---- what a caller may build on
 
+-- a plan and prices put in slices and read back
+back : (q : Plan) (c : Prices) (q′ : Plan) (c′ : Prices) → planFrom (bytesOf q) (q .lengths) ≡ q′ → c ≡ c′
+    → readBack (bytesOf q) (q .lengths) (cellsPriced c) ≡ record { refusal = 0; plan = q′; prices = c′ }
+unfolding readBack
+back q c q′ c′ e f = ap₂ (λ (x : Plan) (y : Prices). record { refusal = 0; plan = x; prices = y }) e f
+
 -- what planning writes is taken back as the planner's own plan, which no check of a plan refuses
 module _ (ds : List ℕ) (p : ℕ) where
-  plan-of : (n : ℕ) (a : PlanLists) → n ≡ 0 → plannedAs n a .plan ≡ slotted a
-  unfolding plannedAs
-  plan-of zero a e = refl
-  plan-of (suc n) a e = absurd (omega arith)
-
   pub made-plan : planningRefusal ds p ≡ 0 → planFrom (bytesOf (planning ds p .plan)) (planning ds p .plan .lengths) ≡ slotted (planOf ds p)
   unfolding planning slotted planOf
   made-plan e =
@@ -195,6 +191,26 @@ module _ (ds : List ℕ) (p : ℕ) where
         → planFrom (making ds p small slots prices .small) (making ds p small slots prices .slots) ≡ slotted (planOf ds p)
     unfolding making madeOr
     make-taken z = rw z (made-plan (passes z))
+
+    -- answer 0 is no refusal
+    pub make-answer : making ds p small slots prices .answer ≡ 0 → makeRefusal ds p (length small) (length slots) (length prices) ≡ 0
+    unfolding making
+    make-answer e = sym (told (makeRefusal ds p (length small) (length slots) (length prices)) (planning ds p)) ∙ e
+      where
+        told : (n : ℕ) (a : Planned) → madeOr n a small slots prices .answer ≡ n
+        told zero a = unfold madeOr in refl
+        told (suc n) a = unfold madeOr in refl
+
+    -- the answer that a caller reads back is planning's own
+    pub make-planned : makeRefusal ds p (length small) (length slots) (length prices) ≡ 0
+        → readBack (making ds p small slots prices .small) (making ds p small slots prices .slots) (making ds p small slots prices .prices) ≡ planning ds p
+    unfolding making madeOr
+    make-planned z =
+        let e = passes z in
+        let r : planning ds p ≡ plannedAs 0 (planOf ds p) = (unfold planning in ap (λ k. plannedAs k (planOf ds p)) e) in
+        let c : planning ds p .prices ≡ pricesOf (planOf ds p) = (unfold planning in prices-of _ (planOf ds p) e) in
+        let s : record { refusal = 0; plan = slotted (planOf ds p); prices = pricesOf (planOf ds p) } ≡ plannedAs 0 (planOf ds p) = (unfold plannedAs in refl) in
+        rw z (back (planning ds p .plan) (planning ds p .prices) (slotted (planOf ds p)) (pricesOf (planOf ds p)) (made-plan e) c ∙ s ∙ sym r)
 
     pub make-accepted : makeRefusal ds p (length small) (length slots) (length prices) ≡ 0
         → planRefusal (planFrom (making ds p small slots prices .small) (making ds p small slots prices .slots)) ≡ 0

@@ -1,2 +1,3 @@
+pub mod Best
 pub mod Calling
 pub mod Cases

@@ -3,7 +3,7 @@ use Prim.Native.Nat.{ℕ, zero, suc}
 use mathlib.Core.Bool.{Bool, _||_, not}
 use mathlib.Core.List.{List, [], _∷_, _++_}
 use lib.Dec.{eqb}
-use lib.ListN.{length}
+use lib.ListN.{length, getD}
 use lib.IntN.{ℤ}
 use Rattle.cube_spec.specs.Checks.{check, first}
 use Rattle.plan_spec.specs.declared.types.Plan.{Plan}
@@ -15,7 +15,7 @@ use Rattle.run_spec.specs.Entries.{Outcome, stepChecks, stepping, viewChecks}
 use Rattle.run_view.specs.declared.types.Part.{Part}
 use Rattle.run_view.specs.Places.{partOf}
 use Rattle.campaign_slices.specs.Scans.{writtenOr}
-use Rattle.campaign_slices.specs.Racks.{bytesOf, lentRefusal, cellsTold, cellsPriced}
+use Rattle.campaign_slices.specs.Racks.{planFrom, bytesOf, lentRefusal, cellsTold, cellsPriced}
 
 -- ---- planning: lengths, p, two slices for the plan and one for its prices
 
@@ -44,6 +44,11 @@ madeOr (suc n) a small slots prices = made (suc n) small slots prices
 unfoldable pub making : List ℕ → ℕ → List ℕ → List ℕ → List ℕ → Made
 making ds p small slots prices =
     madeOr (makeRefusal ds p (length small) (length slots) (length prices)) (planning ds p) small slots prices
+
+-- what a caller reads back from the three slices that planning filled
+unfoldable pub readBack : List ℕ → List ℕ → List ℕ → Planned
+readBack small slots prices =
+    record { refusal = 0; plan = planFrom small slots; prices = record { moved = getD prices 0 0; added = getD prices 1 0; share = getD prices 2 0 } }
 
 -- ---- step: a plan, an array, a work area, a position, and a slice for what is told
 

@@ -12,6 +12,7 @@ use contract.Lifetimes.{Lfts}
 use borrow.Fn.World.{ArgsD, ResD}
 use denote.Triple.Clauses.{AtExit}
 use Rattle.cube_spec.specs.Boxes.{table}
+use Rattle.cube_spec.specs.Choices.{withMask}
 use Rattle.cube_spec.proofs.Sums.{by}
 use Rattle.plan_spec.specs.Plans.{find}
 use Rattle.plan_spec.specs.Accepted.{PlanningAccepted}
@@ -21,7 +22,8 @@ use Rattle.plan_spec.specs.Refusals.{planningRefusal}
 use Rattle.plan_spec.proofs.Accepting.{planning-accepted}
 use Rattle.plan_spec.proofs.Places.{order-length}
 use Rattle.plan_spec.proofs.Demand.{demand, plan-sound}
-use Rattle.rack_spec.proofs.Divided.{pointed-division, pointed-moves}
+use Rattle.rack_spec.proofs.Divided.{pointed-division, pointed-moves, sound-pointed}
+use Rattle.rack_spec.proofs.Parents.{tree-parent}
 use Rattle.controller.specs.Bytes.{pairs, controllerRefusal, writtenOr, written, planIn}
 use Rattle.controller.specs.Best.{BestPlan}
 use Rattle.controller.proofs.Pairing.{refuses-odd, refuses-planning}
@@ -31,10 +33,11 @@ use Rattle.controller.proofs.campaign_plan.Reads as reads
 planned : (ds : List ℕ) (p : ℕ) → PlanningAccepted ds p → BestPlan ds p (planOf ds p)
 planned ds p ok =
     let least = demand ds p (ok .lengths .some) (ok .enough) in
+    let sound = plan-sound ds p (ok .lengths .some) (ok .enough) in
     record {
       lengths = unfold planOf in refl;
       boards = unfold planOf in refl;
-      sound = plan-sound ds p (ok .lengths .some) (ok .enough);
+      sound = sound;
       moved-least = least .moves-least;
       pointed-least = λ c w. rw (← pointed-moves c w) (least .moves-least (pointed-division c) w);
       added-least = least .adds-least;
@@ -44,6 +47,8 @@ planned ds p ok =
       axes = λ mask h. least .axes mask h ∙ (unfold planOf treeAxis in refl);
       moves = least .moves;
       adds = least .adds;
+      parents = λ mask h. tree-parent ds p mask sound h ∙ ap (withMask mask) (sym (least .axes mask h));
+      points = sound-pointed (planOf ds p) sound;
     }
 
 -- the bytes hold the planner's plan
@@ -72,13 +77,15 @@ written-plan : (bytes : List ℕ) (p : ℕ) (result : List ℕ) → controllerRe
 unfolding written writtenOr
 written-plan bytes p result z = ap (λ k. writtenOr k (pairs bytes) p result) z
 
+-- what is left in the result with no refusal holds such a plan
+pub result-best : (bytes : List ℕ) (p : ℕ) (result left : List ℕ) → controllerRefusal bytes p (length result) ≡ 0 → left ≡ written bytes p result
+    → BestPlan (pairs bytes) p (planIn (pairs bytes) p left)
+result-best bytes p result left z w =
+    let ds = pairs bytes in
+    let q : planIn ds p left ≡ planOf ds p = ap (planIn ds p) (w ∙ written-plan bytes p result z) ∙ read-back ds p in
+    subst (BestPlan ds p) (sym q) (planned ds p (planning-accepted ds p (granted bytes p (length result) z)))
+
 -- Statement: of every call with answer 0, by what its caller learns: the function's own contract, as the check reads it.
 pub campaign-best : (κs : Lfts 2) (a : ArgsD signature κs) (r : ResD signature κs) (s : AtExit ended κs) → reads.Learnt κs a r s → r ≡ 0
     → BestPlan (pairs (now (a .0))) (a .1 .0) (planIn (pairs (now (a .0))) (a .1 .0) (now (s .1 .1 .0)))
-campaign-best κs a r s h e =
-    let ds = pairs (now (a .0)) in
-    let p = a .1 .0 in
-    let z : controllerRefusal (now (a .0)) p (length (now (a .1 .1 .0))) ≡ 0 = sym (h .0) ∙ e in
-    let w : now (s .1 .1 .0) ≡ order ds ++ orderedExponents ds p = h .1 ∙ written-plan (now (a .0)) p (now (a .1 .1 .0)) z in
-    let q : planIn ds p (now (s .1 .1 .0)) ≡ planOf ds p = ap (planIn ds p) w ∙ read-back ds p in
-    subst (BestPlan ds p) (sym q) (planned ds p (planning-accepted ds p (granted (now (a .0)) p (length (now (a .1 .1 .0))) z)))
+campaign-best κs a r s h e = result-best (now (a .0)) (a .1 .0) (now (a .1 .1 .0)) (now (s .1 .1 .0)) (sym (h .0) ∙ e) (h .1)

@@ -19,6 +19,7 @@ use Rattle.plan_spec.specs.Trees.{lastSummed, treeAxis}
 use Rattle.plan_spec.specs.Refusals.{planningRefusal, planRefusal}
 use Rattle.plan_spec.specs.Answers.{pricesOf, pricing, plannedAs, planning}
 use Rattle.plan_spec.proofs.Accepting.{planning-accepted, planned-accepted, lists-slotted}
+use Rattle.plan_spec.proofs.Answering.{refusal-of, plan-of, prices-of}
 use Rattle.plan_spec.proofs.PricingLaws.{answer-given}
 use Rattle.plan_spec.proofs.Demand.{demand, plan-sound}
 use Rattle.rack_spec.specs.Grids.{gridOf, maskOf, summed}
@@ -28,18 +29,6 @@ use Rattle.rack_spec.proofs.Parents.{tree-parent}
 use Rattle.plan_entry.specs.Best.{Best, Runnable}
 use Rattle.plan_entry.proofs.planning.plan.{signature, ended}
 use Rattle.plan_entry.proofs.planning.plan.Reads as reads
-
-refusal-of : (k : ℕ) (a : PlanLists) → plannedAs k a .refusal ≡ k
-refusal-of zero a = unfold plannedAs in refl
-refusal-of (suc k) a = unfold plannedAs in refl
-
-prices-of : (k : ℕ) (a : PlanLists) → k ≡ 0 → plannedAs k a .prices ≡ pricesOf a
-prices-of zero a e = unfold plannedAs in refl
-prices-of (suc k) a e = absurd (omega arith)
-
-plan-of : (k : ℕ) (a : PlanLists) → k ≡ 0 → plannedAs k a .plan ≡ slotted a
-plan-of zero a e = unfold plannedAs in refl
-plan-of (suc k) a e = absurd (omega arith)
 
 module _ (l : List ℕ) (p : ℕ) (ok : PlanningAccepted l p) where
   lists-planned : listsOf (slotted (planOf l p)) ≡ planOf l p

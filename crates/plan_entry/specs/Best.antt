@@ -1,5 +1,5 @@
--- What demand 3 says of the planner's answer: no way with any division over the same boards moves fewer values or adds fewer cells than it says, and the tree and the
--- exponents of the returned plan move and add just that.
+-- What demand 3 says of the planner's answer: no way with any division over the same boards moves fewer values or adds fewer cells than it says,
+-- and the tree and the exponents of the returned plan move and add just that.
 use Prim.Native.Nat.{ℕ, _≤_, _<_}
 use mathlib.Core.Path.{_≡_}
 use mathlib.Core.List.{List}
@@ -22,13 +22,15 @@ pub record Best (l : List ℕ) (p : ℕ) (r : Planned) : Type 0 where
   pub added-least : (w : Way (length l)) → r .prices .added ≤ addedBy l w
   -- "exactly then each board has a point": over exponents of any size that sum to p and give each of the 2^p boards a point, a moved value at the price 1
   pub pointed-least : (c : Pointed l p) (w : Way (length l)) → r .prices .moved ≤ costBy (λ d. 1) l (c .exponents) w
-  -- the returned plan's exponents are a division, and its tree is a way: a choice's parent has the last axis more, in the returned order, that the choice sums out
+  -- the returned plan's exponents are a division, and its tree is a way: a choice's parent has the last axis more, in the returned order, that the
+  -- choice sums out
   pub division : Division l p
   pub way : Way (length l)
   pub exponents : division .exponents ≡ listsOf (r .plan) .exponents
   pub axes : (mask : ℕ) → mask < fullMask (length l) → way .axis mask ≡ lastSummed (keeps mask) 0 (listsOf (r .plan) .order)
   -- that parent is the one in the tree of the returned plan, and each board of that plan has a point
-  pub parents : (mask : ℕ) → mask < fullMask (length l) → maskOf (gridOf (listsOf (r .plan))) (parentOf (summed (gridOf (listsOf (r .plan))) mask)) ≡ withMask mask (way .axis mask)
+  pub parents : (mask : ℕ) → mask < fullMask (length l)
+      → maskOf (gridOf (listsOf (r .plan))) (parentOf (summed (gridOf (listsOf (r .plan))) mask)) ≡ withMask mask (way .axis mask)
   pub points : (b : ℕ) → HasPoint (gridOf (listsOf (r .plan))) b
   pub moves : movedBy l division way ≡ r .prices .moved
   pub adds : addedBy l way ≡ r .prices .added

@@ -28,6 +28,21 @@ pub blank : (n : ℕ) → 0 < n → (a : PlanLists) → _≡_ {A = Planned} (rec
 blank zero h a = absurd (omega arith)
 blank (suc n) h a = unfold plannedAs slotted padded in refl
 
+pub refusal-of : (n : ℕ) (a : PlanLists) → plannedAs n a .refusal ≡ n
+unfolding plannedAs
+refusal-of zero a = refl
+refusal-of (suc n) a = refl
+
+pub plan-of : (n : ℕ) (a : PlanLists) → n ≡ 0 → plannedAs n a .plan ≡ slotted a
+unfolding plannedAs
+plan-of zero a e = refl
+plan-of (suc n) a e = absurd (omega arith)
+
+pub prices-of : (n : ℕ) (a : PlanLists) → n ≡ 0 → plannedAs n a .prices ≡ pricesOf a
+unfolding plannedAs
+prices-of zero a e = refl
+prices-of (suc n) a e = absurd (omega arith)
+
 planned-zero : (a : PlanLists) (q : Plan) (c : Prices) → q ≡ slotted a → c ≡ pricesOf a → _≡_ {A = Planned} (record { refusal = 0; plan = q; prices = c }) (plannedAs 0 a)
 unfolding plannedAs
 planned-zero a q c e f = (λ i. record { refusal = 0; plan = e i; prices = f i })

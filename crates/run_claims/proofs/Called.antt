@@ -109,8 +109,9 @@ module _ (q : Plan) (sound : Sound (listsOf q)) (some-axes : 1 ≤ length (lists
   count : length (steps (planGrid q)) ≡ stepCount (listsOf q)
   count = steps-length (listsOf q) sound some-axes
 
-  told-next : (m : TreeStep) → getElem? (steps (planGrid q)) at ≡ some m → stepRefusal q (length array) (length work) at ≡ 0 → (t : Told) (w : List ℤ) (p : ℕ) → t ≡ telling (planGrid q) m → p ≡ at + 1 → AnsweredWith q (length array) work at w p t
-  told-next m f z t w p e k = go m f e
+  told-next : (m : TreeStep) → getElem? (steps (planGrid q)) at ≡ some m → stepRefusal q (length array) (length work) at ≡ 0 → (t : Told) (w : List ℤ) (p : ℕ)
+      → t ≡ telling (planGrid q) m → p ≡ at + 1 → w ≡ stepping q array work at .work → AnsweredWith q array work at w p t
+  told-next m f z t w p e k x = go m f e
     where
       lt : at < stepCount (listsOf q)
       lt = let i = found-lt (steps (planGrid q)) at m f in let c = count in omega arith
@@ -118,19 +119,25 @@ module _ (q : Plan) (sound : Sound (listsOf q)) (some-axes : 1 ≤ length (lists
       there : t ≡ toldAt (planGrid q) (steps (planGrid q)) at
       there = e ∙ (unfold toldAt in rw f refl)
 
-      go : (m : TreeStep) → getElem? (steps (planGrid q)) at ≡ some m → t ≡ telling (planGrid q) m → AnsweredWith q (length array) work at w p t
-      go (expand Y) f e = rw e (z, (lt, sym e ∙ there, k))
-      go (finish Y) f e = rw e (z, (lt, sym e ∙ there, k))
+      go : (m : TreeStep) → getElem? (steps (planGrid q)) at ≡ some m → t ≡ telling (planGrid q) m → AnsweredWith q array work at w p t
+      go (expand Y) f e = rw e (z, (lt, sym e ∙ there, k, x))
+      go (finish Y) f e = rw e (z, (lt, sym e ∙ there, k, x))
       go (transfer Y s r n) f e =
           let a : transfers s r (maskOf (planGrid q) Y) n ≡ toldAt (planGrid q) (steps (planGrid q)) at = sym e ∙ there in
           let n′ = transfer-told (planGrid q) (grid-lawful (listsOf q) sound) at (maskOf (planGrid q) Y) s r n a .1 in
-          rw e (z, (lt, a, k), n′ .count ∙ ap (λ Z. Grids.cells (planGrid q) Z s) (sym (n′ .set)))
+          rw e (z, (lt, a, k, x), n′ .count ∙ ap (λ Z. Grids.cells (planGrid q) Z s) (sym (n′ .set)))
 
-  answered-by : (k : ℕ) → stepRefusal q (length array) (length work) at ≡ k → (t : Told) (w : List ℤ) (p : ℕ) → outcome t w p ≡ stepOr k (planGrid q) array work at → AnsweredWith q (length array) work at w p t
+  answered-by : (k : ℕ) → stepRefusal q (length array) (length work) at ≡ k → (t : Told) (w : List ℤ) (p : ℕ) → outcome t w p ≡ stepOr k (planGrid q) array work at → AnsweredWith q array work at w p t
   unfolding stepOr
   answered-by zero z t w p e = go (getElem? (steps (planGrid q)) at) refl e
     where
-      go : (o : Option TreeStep) → getElem? (steps (planGrid q)) at ≡ o → outcome t w p ≡ taken (planGrid q) array work at o → AnsweredWith q (length array) work at w p t
+      left : stepping q array work at .work ≡ stepOr 0 (planGrid q) array work at .work
+      left = unfold stepping in ap (λ k. stepOr k (planGrid q) array work at .work) z
+
+      all : w ≡ stepping q array work at .work
+      all = ap (λ (x : Outcome). x .work) e ∙ sym left
+
+      go : (o : Option TreeStep) → getElem? (steps (planGrid q)) at ≡ o → outcome t w p ≡ taken (planGrid q) array work at o → AnsweredWith q array work at w p t
       go none f e =
           let a : t ≡ done = ap (λ (x : Outcome). x .says) e ∙ (unfold taken in refl) in
           let b : w ≡ work = ap (λ (x : Outcome). x .work) e ∙ (unfold taken in refl) in
@@ -139,7 +146,7 @@ module _ (q : Plan) (sound : Sound (listsOf q)) (some-axes : 1 ≤ length (lists
           let n = count in
           rw a (z, omega arith, b, c)
       go (some m) f e =
-          told-next m f z t w p (ap (λ (x : Outcome). x .says) e ∙ (unfold taken in refl)) (ap (λ (x : Outcome). x .position) e ∙ (unfold taken in omega arith))
+          told-next m f z t w p (ap (λ (x : Outcome). x .says) e ∙ (unfold taken in refl)) (ap (λ (x : Outcome). x .position) e ∙ (unfold taken in omega arith)) all
   answered-by (suc k) z t w p e =
       let a : t ≡ refused (suc k) = ap (λ (x : Outcome). x .says) e in
       rw a (sym z, (λ n. omega arith), ap (λ (x : Outcome). x .work) e, ap (λ (x : Outcome). x .position) e)

@@ -12,7 +12,7 @@ use Rattle.rack_spec.specs.Finding.{planGrid, summedIn}
 use Rattle.rack_spec.specs.Steps.{steps}
 use Rattle.rack_spec.specs.Grids as Grids
 use Rattle.rack_spec.specs.Answers.{Told, expands, transfers, finishes, done, refused, toldAt, reportedBy}
-use Rattle.run_spec.specs.Entries.{stepRefusal}
+use Rattle.run_spec.specs.Entries.{stepRefusal, stepping}
 
 -- one call: the array and the work area that it is lent, the position before it, its answer, and the work area and the position after it
 pub record Call : Type 0 where
@@ -32,23 +32,30 @@ unfoldable pub reported : List Call → ℕ
 reported [] = 0
 reported (c ∷ l) = reportedBy (c .answer) + reported l
 
--- "any other takes exactly the next step": it answers the step of the list at its position, which then is one more
-abbrev pub Next : Plan → ℕ → ℕ → Told → Type 0
-Next q at at′ t = (at < stepCount (listsOf q)) × (t ≡ toldAt (planGrid q) (steps (planGrid q)) at) × (at′ ≡ at + 1)
+-- "any other takes exactly the next step": it answers the step of the list at its position, which then is one more, and leaves the work area as that step does
+abbrev pub Next : Plan → List ℤ → List ℤ → ℕ → List ℤ → ℕ → Told → Type 0
+Next q array work at work′ at′ t =
+    (at < stepCount (listsOf q)) × (t ≡ toldAt (planGrid q) (steps (planGrid q)) at) × (at′ ≡ at + 1) × (work′ ≡ stepping q array work at .work)
 
 -- "A refused call, and one that answers done, moves nothing and leaves the position; any other takes exactly the next step, and done is answered at T only": from position
--- at over an array of n points and a work area, to another work area and position. "That number is the count of the sender's cells of the child": so of a transfer.
-abbrev pub AnsweredWith : Plan → ℕ → List ℤ → ℕ → List ℤ → ℕ → Told → Type 0
-AnsweredWith q n work at work′ at′ (refused k) = (k ≡ stepRefusal q n (length work) at) × (k ≡ 0 → ⊥) × (work′ ≡ work) × (at′ ≡ at)
-AnsweredWith q n work at work′ at′ done = (stepRefusal q n (length work) at ≡ 0) × (at ≡ stepCount (listsOf q)) × (work′ ≡ work) × (at′ ≡ at)
-AnsweredWith q n work at work′ at′ (expands m) = (stepRefusal q n (length work) at ≡ 0) × Next q at at′ (expands m)
-AnsweredWith q n work at work′ at′ (finishes m) = (stepRefusal q n (length work) at ≡ 0) × Next q at at′ (finishes m)
-AnsweredWith q n work at work′ at′ (transfers s r m v) = (stepRefusal q n (length work) at ≡ 0) × Next q at at′ (transfers s r m v) × (v ≡ Grids.cells (planGrid q) (summedIn q m) s)
+-- at over an array and a work area, to another work area and position. "That number is the count of the sender's cells of the child": so of a transfer.
+abbrev pub AnsweredWith : Plan → List ℤ → List ℤ → ℕ → List ℤ → ℕ → Told → Type 0
+AnsweredWith q array work at work′ at′ (refused k) =
+    (k ≡ stepRefusal q (length array) (length work) at) × (k ≡ 0 → ⊥) × (work′ ≡ work) × (at′ ≡ at)
+AnsweredWith q array work at work′ at′ done =
+    (stepRefusal q (length array) (length work) at ≡ 0) × (at ≡ stepCount (listsOf q)) × (work′ ≡ work) × (at′ ≡ at)
+AnsweredWith q array work at work′ at′ (expands m) =
+    (stepRefusal q (length array) (length work) at ≡ 0) × Next q array work at work′ at′ (expands m)
+AnsweredWith q array work at work′ at′ (finishes m) =
+    (stepRefusal q (length array) (length work) at ≡ 0) × Next q array work at work′ at′ (finishes m)
+AnsweredWith q array work at work′ at′ (transfers s r m v) =
+    (stepRefusal q (length array) (length work) at ≡ 0) × Next q array work at work′ at′ (transfers s r m v) × (v ≡ Grids.cells (planGrid q) (summedIn q m) s)
 
 abbrev pub Answered : Plan → Call → Type 0
-Answered q c = AnsweredWith q (length (c .array)) (c .work) (c .from) (c .left) (c .to) (c .answer)
+Answered q c = AnsweredWith q (c .array) (c .work) (c .from) (c .left) (c .to) (c .answer)
 
--- "What demand 3 says of steps is a single claim about the whole list of calls, and not one for each call.": of the calls on the plan q, whose values moved are `moved`
+-- "What demand 3 says of steps is a single claim about the whole list of calls, and not one for each call.": of the calls on the plan q, whose values
+-- moved are `moved`
 pub record StepsClaim (q : Plan) (moved : ℕ) (calls : List Call) : Type 0 where
   -- no call passes T;
   pub within : reached calls ≤ stepCount (listsOf q)
@@ -56,8 +63,8 @@ pub record StepsClaim (q : Plan) (moved : ℕ) (calls : List Call) : Type 0 wher
   pub at-most : reported calls ≤ moved
   -- and to exactly that once the position is T: "The last step is taken when the position is T.";
   pub exactly : reached calls ≡ stepCount (listsOf q) → reported calls ≡ moved
-  -- and every call of the list is refused where a refusal is due, or answers done at T, and both leave memory and position; or it takes exactly the next step, and a
-  -- transfer reports the sender's cells.
+  -- and every call of the list is refused where a refusal is due, or answers done at T, and both leave memory and position; or it takes exactly the next step, on memory
+  -- and position, and a transfer reports the sender's cells.
   pub each : (k : ℕ) (c : Call) → getElem? calls k ≡ some c → Answered q c
 
 -- two replies of held that both give a number, the first at most the second

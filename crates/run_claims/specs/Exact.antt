@@ -14,8 +14,8 @@ use Rattle.run_spec.specs.Memory.{ran}
 use Rattle.run_spec.specs.Entries.{stepRefusal}
 use Rattle.run_spec.specs.Taking.{toldBefore}
 
--- "Any lawful plan can be priced and run.": what a run starts from, a plan, an array and a work area that step accepts at position 0. That a plan's arrays have eight
--- slots is what their types say.
+-- "Any lawful plan can be priced and run.": what a run starts from, a plan, an array and a work area that step accepts at position 0. That a plan's
+-- arrays have eight slots is what their types say.
 pub record Begins (q : Plan) (array work₀ : List ℤ) : Type 0 where
   pub lengths : length (q .lengths) ≡ 8
   pub order : length (q .order) ≡ 8
@@ -34,8 +34,8 @@ unfoldable pub timesSaid : ℕ → List Told → ℕ
 timesSaid mask [] = 0
 timesSaid mask (t ∷ l) = finishesOnce mask t + timesSaid mask l
 
--- "A position counts steps taken; at T the answer is done.": where a run is. As many steps as calls have been taken, or all of them; the answers told them, the newest the
--- last one.
+-- "A position counts steps taken; at T the answer is done.": where a run is. As many steps as calls have been taken, or all of them; the answers told
+-- them, the newest the last one.
 pub record Reached (q : Plan) (array work₀ : List ℤ) (at : ℕ) (w : List ℤ) (l : List Told) : Type 0 where
   pub within : at ≤ length (steps (planGrid q))
   pub there : w ≡ ran (planGrid q) array (take at (steps (planGrid q))) work₀

@@ -11,10 +11,14 @@ use Rattle.rack_spec.specs.Grids.{Grid, extent, box, index, boardOf, regionOf, 
 use Rattle.rack_spec.specs.Steps.{TreeStep, expand, transfer, finish}
 use Rattle.run_spec.specs.Memory.{source, forms, read}
 
+-- cell c of the child that sums out axis j too: `formed` with nothing wrapped
+abbrev pub plainFormed : Grid → (ℕ → ℤ) → (ℕ → ℤ) → List ℕ → ℕ → ℕ → ℕ → ℤ
+plainFormed g array work Y b j c = sumZ (extent g b j) (λ m. source g array work Y b (put (position (box g (j ∷ Y) b) (g .axes) 0 c) j m))
+
 -- every cell after a step: `after` with nothing wrapped
 unfoldable pub plain : Grid → (ℕ → ℤ) → TreeStep → (ℕ → ℤ) → (ℕ → ℤ)
 plain g array (expand Y) work i =
-    pick (forms g Y (boardOf g i) (regionOf g i) (cellOf g i)) (sumZ (extent g (boardOf g i) (regionOf g i)) (λ m. source g array work Y (boardOf g i) (put (position (box g (regionOf g i ∷ Y) (boardOf g i)) (g .axes) 0 (cellOf g i)) (regionOf g i) m))) (work i)
+    pick (forms g Y (boardOf g i) (regionOf g i) (cellOf g i)) (plainFormed g array work Y (boardOf g i) (regionOf g i) (cellOf g i)) (work i)
 plain g array (transfer Y s r n) work i =
     pick (eqb (boardOf g i) r && (eqb (regionOf g i) (lastOf Y) && ltb (cellOf g i) n)) (work i +ℤ work (index g s (regionOf g i) (cellOf g i))) (work i)
 plain g array (finish Y) work i = work i

@@ -17,7 +17,7 @@ use Rattle.plan_spec.specs.Refusals.{lengthChecks, planningChecks, planningRefu
 use Rattle.plan_spec.specs.Accepted.{PlanningAccepted}
 use Rattle.plan_spec.specs.declared.types.Planned.{Planned}
 use Rattle.plan_spec.proofs.Accepting.{planning-accepted, take-padded, padded-length, lists-slotted, planned-accepted}
-use Rattle.plan_spec.proofs.Answering.{too-many}
+use Rattle.plan_spec.proofs.Answering.{too-many, refusal-of, plan-of}
 use Rattle.plan_spec.proofs.Demand.{plan-sound}
 use Rattle.rack_spec.proofs.Refusing.{Numbered, first-due, first-passed}
 use Rattle.tape_spec.specs.Tapes.{Campaign, campaign}
@@ -49,16 +49,6 @@ unfolding planningChecks lengthChecks
 planning-numbered ds p = (omega arith, (omega arith, (omega arith, (omega arith, (omega arith, tt)))))
 
 -- planning's answer carries its refusal
-pub refusal-of : (n : ℕ) (a : PlanLists) → plannedAs n a .refusal ≡ n
-unfolding plannedAs
-refusal-of zero a = refl
-refusal-of (suc n) a = refl
-
-pub plan-of : (n : ℕ) (a : PlanLists) → n ≡ 0 → plannedAs n a .plan ≡ slotted a
-unfolding plannedAs
-plan-of zero a e = refl
-plan-of (suc n) a e = absurd (omega arith)
-
 module _ (tape : List ℕ) (f : Scan) (e : f ≡ scanning tape) where
   abbrev c : Campaign
   c = orEmpty (campaign tape)

@@ -19,6 +19,7 @@ use Rattle.plan_spec.specs.Answers.{pricesOf, plannedAs}
 use Rattle.plan_spec.specs.Refusals.{planningChecks, planningRefusal, planRefusal}
 use Rattle.plan_spec.specs.Accepted.{PlanningAccepted, Accepted}
 use Rattle.plan_spec.specs.declared.types.Planned.{Planned}
+use Rattle.plan_spec.proofs.Answering.{refusal-of, plan-of}
 use Rattle.plan_spec.proofs.Accepting.{planning-accepted, lists-slotted, slotted-accepted, planned-accepted}
 use Rattle.plan_spec.proofs.Demand.{plan-sound}
 use Rattle.rack_spec.proofs.Refusing.{Numbered}
@@ -27,7 +28,7 @@ use Rattle.tape_spec.specs.Reading.{tooLong, isNone, orEmpty, scanChecks, short
 use Rattle.run_spec.specs.Entries.{badArray, workCells}
 use Rattle.report_spec.specs.Printed.{planFor, tooLarge, programChecks, programRefusal}
 use Rattle.totals_check.specs.Judging.{judging}
-use Rattle.totals_check.proofs.Judged.{planning-numbered, refusal-of, plan-of}
+use Rattle.totals_check.proofs.Judged.{planning-numbered}
 
 -- ---- no check of a list is due
 
