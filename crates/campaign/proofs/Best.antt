@@ -3,7 +3,6 @@
 use Prim.Native.Nat.{ℕ}
 use mathlib.Core.List.{List}
 use mathlib.Core.Path.{_≡_, sym, _∙_, refl, ap, subst}
-use lib.ListN.{length}
 use denote.Ref.{now}
 use contract.Lifetimes.{Lfts}
 use borrow.Fn.World.{ArgsD, ResD}
@@ -14,7 +13,7 @@ use Rattle.plan_entry.proofs.Best.{answer-best}
 use Rattle.controller.specs.Bytes.{pairs, planIn}
 use Rattle.controller.specs.Best.{BestPlan}
 use Rattle.controller.proofs.Best.{result-best}
-use Rattle.campaign.specs.Calls.{Made, makeRefusal, making, readBack}
+use Rattle.campaign.specs.Calls.{Made, readBack}
 use Rattle.campaign.proofs.Calling.{make-answer, make-planned}
 use Rattle.campaign.proofs.plans.campaign_plan as bytes
 use Rattle.campaign.proofs.plans.campaign_plan.Reads as bytes-reads

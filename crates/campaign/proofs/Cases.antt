@@ -3,7 +3,7 @@ use Prim.Native.Nat.{ℕ}
 use mathlib.Core.Path.{_≡_, refl}
 use mathlib.Core.List.{List, [], _∷_, _++_}
 use lib.ListN.{replicate}
-use lib.IntN.{ℤ, pos}
+use lib.IntN.{pos}
 use Rattle.plan_spec.specs.declared.types.Plan.{Plan}
 use Rattle.campaign_slices.specs.Racks.{planFrom}
 use Rattle.campaign.specs.Calls.{makeRefusal, made, making, runRefusal, ran, running, partRefusal, parting}

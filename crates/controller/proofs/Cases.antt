@@ -1,7 +1,6 @@
 -- The controller's planning on small byte lists that are none of P1 to P10, and each refusal in its order.
-use Prim.Native.Nat.{ℕ}
 use mathlib.Core.Path.{_≡_, refl}
-use mathlib.Core.List.{List, [], _∷_}
+use mathlib.Core.List.{[], _∷_}
 use lib.ListN.{replicate}
 use Rattle.controller.specs.Computing.{computing}
 use Rattle.controller.specs.Bytes.{controllerRefusal, written}

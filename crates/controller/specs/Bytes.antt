@@ -1,6 +1,6 @@
 -- The controller's planning, over bytes.
 use Prim.Native.Nat.{ℕ, zero, suc, _*_, _%_}
-use mathlib.Core.Bool.{Bool, _||_, not}
+use mathlib.Core.Bool.{Bool, not}
 use mathlib.Core.List.{List, [], _∷_, _++_}
 use lib.Dec.{eqb}
 use lib.ListN.{length, getD, take, drop}

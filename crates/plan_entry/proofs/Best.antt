@@ -1,8 +1,7 @@
 -- Demand 3 tied to the planner's own clause: whatever a call of `plan` returns with refusal 0 is best, and can be run (specs/Best).
-use Prim.Native.Nat.{ℕ, zero, suc}
+use Prim.Native.Nat.{ℕ}
 use mathlib.Core.Path.{_≡_, sym, _∙_, refl, ap, subst}
 use mathlib.Core.List.{List}
-use native.Mathlib.Omega.{arith}
 use denote.Ref.{now}
 use contract.Lifetimes.{Lfts}
 use borrow.Fn.World.{ArgsD, ResD}

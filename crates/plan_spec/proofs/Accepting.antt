@@ -29,7 +29,7 @@ unfolding first
 first-none n true r h e = absurd (omega arith)
 first-none n false r h e = (refl, e)
 
-or-none : (a b : Bool) → (a || b) ≡ false → (a ≡ false) × (b ≡ false)
+pub or-none : (a b : Bool) → (a || b) ≡ false → (a ≡ false) × (b ≡ false)
 or-none true b e = clash e
 or-none false b e = (refl, e)
 

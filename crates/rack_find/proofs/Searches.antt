@@ -37,9 +37,6 @@ module _ {q : Plan} {s : Search} {mask d n rest : ℕ} (z : Searching q s mask d
   pub labellings-few : n ≤ 1024
   labellings-few = few (z .accepted) (z .walking)
 
-  pub rest-few : rest ≤ 1024
-  rest-few = rw (z .spans) (span-small q (z .accepted) d (z .walking .within))
-
   pub sent-few : (i : ℕ) → i ≤ s .axes → getD (s .sent) i 0 ≤ 262144
   sent-few i l = let h : i ≤ q .axes = (let e = z .axes in omega arith) in rw (z .sents i h) (sendings-small q (z .accepted) i h)
 

@@ -61,10 +61,15 @@ values-first l zero = omega arith
 values-first [] (suc at) = omega arith
 values-first (s ∷ l) (suc at) = let q = values-first l at in omega arith
 
-some-below : (l : List TreeStep) (at : ℕ) (m : TreeStep) → getElem? l at ≡ some m → at < length l
+pub some-below : (l : List TreeStep) (at : ℕ) (m : TreeStep) → getElem? l at ≡ some m → at < length l
 some-below [] at m e = absurd (let z : _≡_ {A = ℕ} 0 1 = cc in omega arith)
 some-below (s ∷ l) zero m e = omega arith
 some-below (s ∷ l) (suc at) m e = let q = some-below l at m e in omega arith
+
+pub none-past : (l : List TreeStep) (at : ℕ) → getElem? l at ≡ none → length l ≤ at
+none-past [] at e = omega arith
+none-past (s ∷ l) zero e = absurd (let z : _≡_ {A = ℕ} 0 1 = cc in omega arith)
+none-past (s ∷ l) (suc at) e = let q = none-past l at e in omega arith
 
 module _ (g : Grid) where
   -- what was moved before a call and what it reports is what was moved after it

@@ -7,10 +7,9 @@ use native.Mathlib.Omega.{arith}
 use borrow.Author.Tests.{eqb-true, eqb-false}
 use lib.Dec.{eqb}
 use lib.ListN.{length, getD}
-use lib.Pow.{pow-pos}
 use Rattle.cube_spec.specs.Boxes.{pick}
 use Rattle.cube_spec.specs.Choices.{keeps, fullMask, withMask}
-use Rattle.cube_spec.specs.Tree.{has, lastOf, parentOf}
+use Rattle.cube_spec.specs.Tree.{lastOf, parentOf}
 use Rattle.cube_spec.proofs.Sums.{by}
 use Rattle.cube_spec.proofs.Naturals.{not-true, not-false}
 use Rattle.cube_spec.proofs.Digits.{with-summed}

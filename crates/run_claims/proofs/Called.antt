@@ -24,6 +24,7 @@ use Rattle.rack_spec.specs.Held as Held
 use Rattle.rack_spec.proofs.Lawful.{grid-lawful}
 use Rattle.rack_spec.proofs.Counting.{steps-length}
 use Rattle.rack_spec.proofs.Told.{transfer-told}
+use Rattle.rack_spec.proofs.Claim.{some-below, none-past}
 use Rattle.rack_spec.proofs.Refusing.{held-given}
 use Rattle.plan_entry.specs.Best.{Runnable}
 use Rattle.plan_entry.proofs.Best.{planned-runs}
@@ -95,16 +96,6 @@ listed {q} (one-more {l} before κs a r s h e p) =
 
 -- ---- what one call answers
 
-pub found-lt : (l : List TreeStep) (at : ℕ) (m : TreeStep) → getElem? l at ≡ some m → at < length l
-found-lt [] at m e = absurd (let z : _≡_ {A = ℕ} 0 1 = cc in omega arith)
-found-lt (s ∷ l) zero m e = omega arith
-found-lt (s ∷ l) (suc at) m e = let i = found-lt l at m e in omega arith
-
-pub found-none : (l : List TreeStep) (at : ℕ) → getElem? l at ≡ none → length l ≤ at
-found-none [] at e = omega arith
-found-none (s ∷ l) zero e = absurd (let z : _≡_ {A = ℕ} 0 1 = cc in omega arith)
-found-none (s ∷ l) (suc at) e = let i = found-none l at e in omega arith
-
 module _ (q : Plan) (sound : Sound (listsOf q)) (some-axes : 1 ≤ length (listsOf q .lengths)) (array work : List ℤ) (at : ℕ) (inside : at ≤ stepCount (listsOf q)) where
   count : length (steps (planGrid q)) ≡ stepCount (listsOf q)
   count = steps-length (listsOf q) sound some-axes
@@ -114,7 +105,7 @@ module _ (q : Plan) (sound : Sound (listsOf q)) (some-axes : 1 ≤ length (lists
   told-next m f z t w p e k x = go m f e
     where
       lt : at < stepCount (listsOf q)
-      lt = let i = found-lt (steps (planGrid q)) at m f in let c = count in omega arith
+      lt = let i = some-below (steps (planGrid q)) at m f in let c = count in omega arith
 
       there : t ≡ toldAt (planGrid q) (steps (planGrid q)) at
       there = e ∙ (unfold toldAt in rw f refl)
@@ -142,7 +133,7 @@ module _ (q : Plan) (sound : Sound (listsOf q)) (some-axes : 1 ≤ length (lists
           let a : t ≡ done = ap (λ (x : Outcome). x .says) e ∙ (unfold taken in refl) in
           let b : w ≡ work = ap (λ (x : Outcome). x .work) e ∙ (unfold taken in refl) in
           let c : p ≡ at = ap (λ (x : Outcome). x .position) e ∙ (unfold taken in refl) in
-          let i = found-none (steps (planGrid q)) at f in
+          let i = none-past (steps (planGrid q)) at f in
           let n = count in
           rw a (z, omega arith, b, c)
       go (some m) f e =

@@ -26,12 +26,14 @@ use Rattle.rack_spec.specs.Held.{finishedAt, finishedBy}
 use Rattle.rack_spec.specs.Answers.{Told, finishes, done, told, telling, tellingOr, toldAt}
 use Rattle.cube_spec.proofs.Sums.{by}
 use Rattle.plan_spec.proofs.Accepting.{accepted}
+use Rattle.rack_spec.proofs.Claim.{some-below, none-past}
 use Rattle.rack_spec.proofs.Counting.{steps-length}
 use Rattle.rack_spec.proofs.Masks.{each-choice-once, no-other-choice}
 use Rattle.rack_spec.proofs.Tallied.{lawful}
 use Rattle.run_spec.specs.Memory.{read, stepped, ran}
 use Rattle.run_spec.specs.Entries.{Outcome, outcome, taken, workCells, stepOr, stepping, viewRefusal, viewOf, viewing, gatherRefusal, gathering}
 use Rattle.run_spec.specs.Gather.{gathered, viewed}
+use Rattle.run_spec.proofs.Lists.{ran-more}
 use Rattle.run_spec.proofs.Gathers.{gather-passed, gathered-some}
 use Rattle.run_spec.proofs.Shown.{view-passed, shown, finished-is}
 use Rattle.run_spec.specs.Taking.{toldBefore}
@@ -39,7 +41,7 @@ use Rattle.run_spec.proofs.Stepped.{Passed, passed}
 use Rattle.run_spec.proofs.Refusing.{step-passed}
 use Rattle.run_spec.proofs.Lists.{ran-length}
 use Rattle.run_claims.specs.Exact.{Begins, finishesOnce, timesSaid, Reached}
-use Rattle.run_claims.proofs.Called.{does, found-lt, found-none}
+use Rattle.run_claims.proofs.Called.{does}
 use Rattle.run_spec.proofs.Positions.{take-next, gathered-at, viewed-at}
 use Rattle.run_gather.proofs.copying.gather as gather
 use Rattle.run_gather.proofs.copying.gather.Reads as gather-reads
@@ -63,11 +65,6 @@ finished-more : (g : Grid) (mask : ℕ) (l : List TreeStep) (m : TreeStep) → t
 unfolding timesFinished
 finished-more g mask [] m = omega arith
 finished-more g mask (s ∷ l) m = let i = finished-more g mask l m in omega arith
-
-ran-more : (g : Grid) (array : List ℤ) (l : List TreeStep) (m : TreeStep) (work : List ℤ) → ran g array (l ++ (m ∷ [])) work ≡ stepped g array m (ran g array l work)
-unfolding ran
-ran-more g array [] m work = refl
-ran-more g array (s ∷ l) m work = ran-more g array l m (stepped g array s work)
 
 telling-once : (g : Grid) (mask : ℕ) (m : TreeStep) → finishesOnce mask (telling g m) ≡ finishesMask g mask m
 telling-once g mask (expand Y) = refl
@@ -119,7 +116,7 @@ module _ (q : Plan) (array work₀ : List ℤ) (begins : Begins q array work₀)
           let a : t ≡ done = ap (λ (x : Outcome). x .says) e ∙ (unfold taken in refl) in
           let b : v ≡ w = ap (λ (x : Outcome). x .work) e ∙ (unfold taken in refl) in
           let c : p ≡ at = ap (λ (x : Outcome). x .position) e ∙ (unfold taken in refl) in
-          let n = found-none (steps g) at f in
+          let n = none-past (steps g) at f in
           let i = k .within in
           rw (c, b) (record {
             within = k .within;
@@ -135,7 +132,7 @@ module _ (q : Plan) (array work₀ : List ℤ) (begins : Begins q array work₀)
           let b : v ≡ stepped g array m w = ap (λ (x : Outcome). x .work) e ∙ (unfold taken in refl) in
           let c : p ≡ suc at = ap (λ (x : Outcome). x .position) e ∙ (unfold taken in omega arith) in
           let n = take-next (steps g) at m f in
-          let i = found-lt (steps g) at m f in
+          let i = some-below (steps g) at m f in
           rw c (record {
             within = i;
             there = b ∙ ap (stepped g array m) (k .there) ∙ sym (ran-more g array (take at (steps g)) m work₀) ∙ ap (λ l. ran g array l work₀) (sym n);

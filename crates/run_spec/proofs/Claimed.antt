@@ -16,9 +16,8 @@ use Rattle.rack_spec.specs.Grids.{Grid, gridOf}
 use Rattle.rack_spec.specs.Steps.{TreeStep, expand, transfer, finish, steps}
 use Rattle.rack_spec.specs.Answers.{done, refused, telling, reportedBy}
 use Rattle.rack_spec.specs.Held.{held}
-use Rattle.rack_spec.proofs.Counting.{steps-length}
 use Rattle.rack_spec.proofs.Claim as Claim
-use Rattle.rack_spec.proofs.Claim.{answers, moves}
+use Rattle.rack_spec.proofs.Claim.{answers, moves, none-past}
 use Rattle.run_spec.specs.Entries.{Outcome, taken, stepOr, stepRefusal, stepping}
 
 -- what a call is lent
@@ -62,11 +61,6 @@ module _ (q : Plan) (c : Lent) (at : ℕ) where
       go (suc n) = unfold stepOr in rw (ne-eqb (suc n) 0 (λ z. omega arith)) (record { goes = refl; tells = refl })
 
 -- "done is answered at T only"
-none-past : (l : List TreeStep) (at : ℕ) → getElem? l at ≡ none → length l ≤ at
-none-past [] at e = omega arith
-none-past (s ∷ l) zero e = absurd (let z : _≡_ {A = ℕ} 0 1 = cc in omega arith)
-none-past (s ∷ l) (suc at) e = let q = none-past l at e in omega arith
-
 never-done : (g : Grid) (m : TreeStep) → telling g m ≡ done → ⊥
 never-done g (expand Y) e = let z : _≡_ {A = ℕ} 0 1 = cc in omega arith
 never-done g (transfer Y s r n) e = let z : _≡_ {A = ℕ} 0 1 = cc in omega arith
@@ -117,11 +111,3 @@ module _ (q : Plan) (sound : Sound (listsOf q)) (axes : 0 < length (listsOf q .l
   -- and no board below 2^p holds more than at position 1
   pub claim-held : (b : ℕ) → b < boardCount (listsOf q) → held (gridOf (listsOf q)) (reached q 0 l) b ≤ held (gridOf (listsOf q)) 1 b
   claim-held b h = rw (reached-so q 0 l) (Claim.claim-held (listsOf q) sound axes (accepted q 0 l) b h)
-
-  -- a further call answers done at T only
-  pub claim-done : (c : Lent) → stepping q (c .array) (c .work) (reached q 0 l) .says ≡ done → reached q 0 l ≡ stepCount (listsOf q)
-  claim-done c e =
-      let p = done-past q (c .array) (c .work) (reached q 0 l) e in
-      let t = steps-length (listsOf q) sound axes in
-      let h = claim-within in
-      omega arith

@@ -29,6 +29,12 @@ use Rattle.cell_spec.proofs.Modulo.{wrapped-fits, sum-fits, pick-small}
 use Rattle.run_spec.proofs.Totals.{Law}
 use Rattle.run_spec.proofs.Runs.{Final, run-exact}
 
+-- one step more
+pub ran-more : (g : Grid) (array : List ℤ) (l : List TreeStep) (m : TreeStep) (work : List ℤ) → ran g array (l ++ (m ∷ [])) work ≡ stepped g array m (ran g array l work)
+unfolding ran
+ran-more g array [] m work = refl
+ran-more g array (s ∷ l) m work = ran-more g array l m (stepped g array s work)
+
 -- ---- the steps of the list write in the 2^p·A cells alone
 
 module _ (g : Grid) where

@@ -1,13 +1,13 @@
 -- The program's refusals, one after the other: those of the scan, of planning, and of the counts.
 use Prim.Native.Nat.{ℕ, zero, suc, _+_, _≤_, _<_}
 use mathlib.Core.Path.{_≡_, sym, _∙_, refl, ap, ap₂}
-use mathlib.Core.Bool.{Bool, true, false, not, _||_}
+use mathlib.Core.Bool.{true, false}
 use mathlib.Core.List.{List, [], _∷_, _++_}
 use native.Mathlib.Omega.{arith}
 use borrow.Author.Tests.{lt-ltb, le-ltb, eq-eqb, ne-eqb}
 use lib.Dec.{eqb, ltb}
 use lib.ListN.{length, take}
-use Rattle.cube_spec.specs.Limits.{axisLimit, programLimit, padded}
+use Rattle.cube_spec.specs.Limits.{programLimit, padded}
 use Rattle.cube_spec.specs.Choices.{points}
 use Rattle.cube_spec.specs.Checks.{Check, check, first}
 use Rattle.plan_spec.specs.Plans.{PlanLists, listsOf, slotted}
@@ -22,7 +22,7 @@ use Rattle.plan_spec.proofs.Demand.{plan-sound}
 use Rattle.rack_spec.proofs.Refusing.{Numbered, first-due, first-passed}
 use Rattle.tape_spec.specs.Tapes.{Campaign, campaign}
 use Rattle.tape_spec.specs.declared.types.Scan.{Scan}
-use Rattle.tape_spec.specs.Reading.{isNone, orEmpty, scanChecks, scanRefusal, scannedAs, scanning}
+use Rattle.tape_spec.specs.Reading.{orEmpty, scanChecks, scanRefusal, scannedAs, scanning}
 use Rattle.tape_spec.proofs.Refusing.{scan-first, scan-passed}
 use Rattle.run_spec.specs.Entries.{badArray, workCells}
 use Rattle.report_spec.specs.Printed.{planFor, tooLarge, programChecks, programRefusal}

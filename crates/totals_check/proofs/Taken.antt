@@ -1,7 +1,7 @@
 -- What the program knows of a tape that it does not refuse: its plan, its points, and that all fits.
-use Prim.Native.Nat.{ℕ, zero, suc, _≤_, _<_}
+use Prim.Native.Nat.{ℕ, _≤_, _<_}
 use mathlib.Core.Path.{_≡_, sym, _∙_, refl, ap, ap₂}
-use mathlib.Core.Bool.{Bool, true, false, not, _||_}
+use mathlib.Core.Bool.{true, false, not}
 use mathlib.Core.List.{List, [], _∷_, _++_}
 use native.Mathlib.Omega.{arith}
 use borrow.Author.Tests.{eqb-true, ltb-false, le-ltb}
@@ -9,18 +9,18 @@ use lib.Dec.{eqb, ltb}
 use lib.IntN.{ℤ}
 use lib.ListN.{length, take, drop, length-append}
 use lib.Seq.{take-at}
-use Rattle.cube_spec.specs.Limits.{programLimit, tapeLimit}
+use Rattle.cube_spec.specs.Limits.{programLimit}
 use Rattle.cube_spec.specs.Choices.{points}
 use Rattle.cube_spec.specs.Checks.{Check, check, first}
 use Rattle.cube_spec.proofs.Sums.{by}
-use Rattle.plan_spec.specs.Plans.{PlanLists, Sound, listsOf, slotted}
+use Rattle.plan_spec.specs.Plans.{Sound, listsOf, slotted}
 use Rattle.plan_spec.specs.Rule.{planOf}
-use Rattle.plan_spec.specs.Answers.{pricesOf, plannedAs}
+use Rattle.plan_spec.specs.Answers.{pricesOf}
 use Rattle.plan_spec.specs.Refusals.{planningChecks, planningRefusal, planRefusal}
 use Rattle.plan_spec.specs.Accepted.{PlanningAccepted, Accepted}
 use Rattle.plan_spec.specs.declared.types.Planned.{Planned}
-use Rattle.plan_spec.proofs.Answering.{refusal-of, plan-of}
-use Rattle.plan_spec.proofs.Accepting.{planning-accepted, lists-slotted, slotted-accepted, planned-accepted}
+use Rattle.plan_spec.proofs.Answering.{refusal-of, plan-of, prices-of}
+use Rattle.plan_spec.proofs.Accepting.{planning-accepted, lists-slotted, slotted-accepted, planned-accepted, or-none}
 use Rattle.plan_spec.proofs.Demand.{plan-sound}
 use Rattle.rack_spec.proofs.Refusing.{Numbered}
 use Rattle.tape_spec.specs.Tapes.{Campaign, campaign}
@@ -43,15 +43,6 @@ none-both (c ∷ l) r n h =
     let d = none-first c (l ++ r) (n .0) h in
     let i = none-both l r (n .1) (d .1) in
     (rw (d .0) (i .0), i .1)
-
-prices-of : (n : ℕ) (a : PlanLists) → n ≡ 0 → plannedAs n a .prices ≡ pricesOf a
-unfolding plannedAs
-prices-of zero a e = refl
-prices-of (suc n) a e = absurd (omega arith)
-
-neither : (a b : Bool) → (a || b) ≡ false → (a ≡ false) × (b ≡ false)
-neither true b e = (e, by b (λ t. absurd (let z : true ≡ false = e in let y : _≡_ {A = ℕ} 0 1 = cc in omega arith)) (λ t. t))
-neither false b e = (refl, e)
 
 same : (m n : ℕ) → not (eqb m n) ≡ false → m ≡ n
 same m n e = by (eqb m n) (λ t. eqb-true m n t) (λ t. absurd (let z : true ≡ false = (rw t at e) in let y : _≡_ {A = ℕ} 0 1 = cc in omega arith))
@@ -122,7 +113,7 @@ module _ (tape : List ℕ) (judged : Planned) (e : judged ≡ judging tape) wher
 
     large : (ltb programLimit (length (c .points)) ≡ false) × (ltb programLimit (workCells (planFor c)) ≡ false)
     unfolding tooLarge
-    large = neither (ltb programLimit (length (c .points))) (ltb programLimit (workCells (planFor c))) (counted .1)
+    large = or-none (ltb programLimit (length (c .points))) (ltb programLimit (workCells (planFor c))) (counted .1)
 
     pub points-few : length (c .points) ≤ 8192
     points-few = ltb-false programLimit (length (c .points)) (large .0)

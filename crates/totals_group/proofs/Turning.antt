@@ -1,7 +1,7 @@
 -- A run taken one step further, and the group that a finish prints.
-use Prim.Native.Nat.{ℕ, zero, suc, _+_, _^_, _≤_, _<_}
-use mathlib.Core.Path.{_≡_, sym, _∙_, refl, ap, ap₂}
-use mathlib.Core.Option.{Option, none, some}
+use Prim.Native.Nat.{ℕ, zero, suc, _+_, _≤_, _<_}
+use mathlib.Core.Path.{_≡_, sym, _∙_, refl, ap}
+use mathlib.Core.Option.{some}
 use mathlib.Core.List.{List, [], _∷_, _++_}
 use native.Mathlib.Omega.{arith}
 use lib.IntN.{ℤ}
@@ -25,8 +25,9 @@ use types.Run.{OneOf, miss}
 use Rattle.rack_spec.proofs.Counting.{steps-length}
 use Rattle.rack_spec.proofs.Tallied.{lawful}
 use Rattle.run_spec.specs.Memory.{read, stepped, ran}
-use Rattle.run_spec.specs.Entries.{Outcome, outcome, taken, workCells, stepOr, stepRefusal, stepping, gatherRefusal, gathering}
+use Rattle.run_spec.specs.Entries.{Outcome, outcome, taken, workCells, stepOr, stepping, gatherRefusal, gathering}
 use Rattle.run_spec.specs.Gather.{gathered}
+use Rattle.run_spec.proofs.Lists.{ran-more}
 use Rattle.run_spec.proofs.Gathers.{gather-passed, gathered-some}
 use Rattle.run_spec.proofs.Lists.{ran-length}
 use Rattle.run_spec.proofs.Positions.{take-next, gathered-at}
@@ -52,11 +53,6 @@ found : (l : List TreeStep) (at : ℕ) → at < length l → Found l at
 found [] at h = absurd (omega arith)
 found (s ∷ l) zero h = record { step = s; there = refl }
 found (s ∷ l) (suc at) h = let i = found l at (omega arith) in record { step = i .step; there = i .there }
-
-ran-more : (g : Grid) (array : List ℤ) (l : List TreeStep) (m : TreeStep) (work : List ℤ) → ran g array (l ++ (m ∷ [])) work ≡ stepped g array m (ran g array l work)
-unfolding ran
-ran-more g array [] m work = refl
-ran-more g array (s ∷ l) m work = ran-more g array l m (stepped g array s work)
 
 -- what is told of a finish, and of nothing else
 told-finish : (g : Grid) (m : TreeStep) (Y : List ℕ) → m ≡ finish Y → telling g m ≡ finishes (maskOf g Y)

@@ -1,20 +1,13 @@
 -- `totals_line::next_line` meets its contract: each return puts the line that is due, or nothing.
-use mathlib.Core.Path.{_≡_, sym, _∙_, refl, ap}
+use mathlib.Core.Path.{_≡_, _∙_, refl, ap}
 use native.Mathlib.Omega.{arith}
-use Prim.Native.Nat.{_+_, _*_, _-_, _^_, _%_, _<_}
+use Prim.Native.Nat.{_+_, _^_, _<_}
 use lib.ListN.{length}
 use lib.Seq.{sets}
-use Rattle.totals_line.proofs.Lined.{refused-line-is, refused-end, refused-stands, ok, few-axes, is-ready, plan-line-there, dim-asks, dim-line-there, power, power-few, some-left, group-line-there, group-stands, end-line-there, over, kept-stands, head-stands}
+use Rattle.totals_line.proofs.Lined.{refused-line-is, refused-end, refused-stands, few-axes, is-ready, plan-line-there, dim-asks, dim-line-there, power, power-few, group-line-there, group-stands, end-line-there, over, kept-stands, head-stands}
 use borrow.Author.Needs.{needs}
 use Rattle.totals_line.proofs.next_line.Statement.{statement}
 use Rattle.totals_line.proofs.next_line.Tie as tie
-use Rattle.totals_line.proofs.next_line.Reads as reads
-use Rattle.totals_line.proofs.next_line.Lts as lts
-use Rattle.report_line.proofs.reports.dim_line.Reads as dim-line-reads
-use Rattle.report_line.proofs.reports.end_line.Reads as end-line-reads
-use Rattle.report_line.proofs.reports.plan_line.Reads as plan-line-reads
-use Rattle.report_line.proofs.reports.refused_line.Reads as refused-line-reads
-use Rattle.totals_group.proofs.groups.next_group.Reads as next-group-reads
 
 -- src/lib.rt:32:13
 returns : tie.Need-returns

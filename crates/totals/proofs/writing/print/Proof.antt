@@ -4,9 +4,6 @@ use borrow.Author.Needs.{needs}
 use Rattle.totals.proofs.Stopping.{ends-input}
 use Rattle.totals.proofs.writing.print.Statement.{statement}
 use Rattle.totals.proofs.writing.print.Tie as tie
-use Rattle.totals.proofs.writing.print.Reads as reads
-use Rattle.totals.proofs.writing.print.Lts as lts
-use Rattle.totals.proofs.writing.print_tape.Reads as print-tape-reads
 
 sub-print-tape : tie.Need-sub-print-tape
 sub-print-tape c = search needs

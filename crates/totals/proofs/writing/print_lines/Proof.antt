@@ -1,7 +1,7 @@
 -- `totals::writing::print_lines` stops where `Ends` says, and ends: each turn hands out a line more, and there are finitely many.
 -- The invariant: the report stands after so many lines, which are no more than it has.
-use Prim.Native.Nat.{ℕ, _+_, _-_, _≤_, _<_}
-use mathlib.Core.Path.{_≡_, sym, _∙_, refl, ap, subst}
+use Prim.Native.Nat.{_-_, _≤_}
+use mathlib.Core.Path.{_≡_, sym, refl, subst}
 use mathlib.Core.Bool.{Bool, false}
 use native.Mathlib.Omega.{arith}
 use borrow.Author.Needs.{needs}
@@ -15,10 +15,6 @@ use Rattle.totals.proofs.Handed.{line-there}
 use Rattle.totals.proofs.Stopping.{ends-whole, ends-cut}
 use Rattle.totals.proofs.writing.print_lines.Statement.{statement}
 use Rattle.totals.proofs.writing.print_lines.Tie as tie
-use Rattle.totals.proofs.writing.print_lines.Reads as reads
-use Rattle.totals.proofs.writing.print_lines.Lts as lts
-use Rattle.totals_line.proofs.next_line.Reads as next-line-reads
-use Rattle.totals.proofs.writing.write.Reads as write-reads
 
 abbrev Inv-loop : tie.InvT-loop
 Inv-loop tape judged points work₀ cells₀ out₀ lines₀ position₀ work cells out lines position =

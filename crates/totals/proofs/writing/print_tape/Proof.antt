@@ -5,11 +5,6 @@ use lib.ListN.{take}
 use borrow.Author.Needs.{needs}
 use Rattle.totals.proofs.writing.print_tape.Statement.{statement}
 use Rattle.totals.proofs.writing.print_tape.Tie as tie
-use Rattle.totals.proofs.writing.print_tape.Reads as reads
-use Rattle.totals.proofs.writing.print_tape.Lts as lts
-use Rattle.totals_check.proofs.judging.judge.Reads as judge-reads
-use Rattle.totals.proofs.writing.print_loaded.Reads as print-loaded-reads
-use Rattle.totals.proofs.loading.load.Reads as load-reads
 
 judge-requires : tie.Need-judge-requires
 judge-requires c κs = search needs

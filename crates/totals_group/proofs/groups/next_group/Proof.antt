@@ -1,5 +1,5 @@
 -- `totals_group::groups::next_group` meets its contract. The invariant: the run is ready, and no group was printed since the call began.
-use Prim.Native.Nat.{ℕ, _+_, _-_, _≤_, _<_}
+use Prim.Native.Nat.{_+_, _-_, _≤_, _<_}
 use mathlib.Core.Path.{_≡_, sym, _∙_, refl, ap, ap₂}
 use native.Mathlib.Omega.{arith}
 use borrow.Author.Needs.{needs}
@@ -16,12 +16,6 @@ use Rattle.totals_group.proofs.Turning.{work-length, all-printed, none-
 use Rattle.totals_group.specs.Grouped.{Ready, groupsOf, groupsBefore, groupText}
 use Rattle.totals_group.proofs.groups.next_group.Statement.{statement}
 use Rattle.totals_group.proofs.groups.next_group.Tie as tie
-use Rattle.totals_group.proofs.groups.next_group.Reads as reads
-use Rattle.totals_group.proofs.groups.next_group.Lts as lts
-use Rattle.run_take.proofs.take.Reads as take-reads
-use Rattle.rack_count.proofs.counts.tallies_of.Reads as tallies-of-reads
-use Rattle.rack_count.proofs.counts.steps_of.Reads as steps-of-reads
-use Rattle.totals_group.proofs.groups.put_finished.Reads as put-finished-reads
 
 abbrev Inv-loop : tie.InvT-loop
 Inv-loop plan points work₀ position₀ cells₀ out₀ total tallies work position cells out =

@@ -13,10 +13,6 @@ use Rattle.totals_group.specs.Grouped.{groupText}
 use borrow.Author.Needs.{needs}
 use Rattle.totals_group.proofs.groups.put_gathered.Statement.{statement}
 use Rattle.totals_group.proofs.groups.put_gathered.Tie as tie
-use Rattle.totals_group.proofs.groups.put_gathered.Reads as reads
-use Rattle.totals_group.proofs.groups.put_gathered.Lts as lts
-use Rattle.run_gather.proofs.copying.gather.Reads as gather-reads
-use Rattle.report_line.proofs.printing.put_group.Reads as put-group-reads
 
 -- src/groups.rt:32:5
 gather-requires : tie.Need-gather-requires
