@@ -1,9 +1,9 @@
-//! libcampaign.a, as include/campaign.h declares it, over slices; and faults that can be planted
-//! between it and a comparison.
+//! libcampaign.a, as include/campaign.h declares it, over slices. Faults can be planted in what a
+//! call answers and writes.
 
-use std::cell::Cell;
+use std::slice;
 
-use crate::slots::Slots;
+use crate::faults::{spoil, told, Entry, Part};
 
 extern "C" {
     fn campaign_plan(
@@ -99,143 +99,109 @@ extern "C" {
     fn campaign_fill(tape: *const u8, tape_len: usize, array: *mut i32, array_len: usize) -> u8;
 }
 
-/// What a fault changes of a call: its answer where that is 0, the last cell that it writes, or
-/// the position.
-#[derive(Clone, Copy, Debug, PartialEq)]
-pub enum Fault {
-    Answer,
-    Cell,
-    Position,
-}
-
-#[derive(Clone, Copy, Debug, PartialEq)]
-pub enum Entry {
-    Plan,
-    Make,
-    Price,
-    StepCount,
-    StepAt,
-    Held,
-    Step,
-    View,
-    Gather,
-    Scan,
-    Fill,
-}
-
-thread_local! {
-    static PLANTED: Cell<Option<(Entry, Fault)>> = const { Cell::new(None) };
-}
-
-pub fn plant(fault: Option<(Entry, Fault)>) {
-    PLANTED.set(fault);
-}
-
-fn planted(entry: Entry, fault: Fault) -> bool {
-    PLANTED.get() == Some((entry, fault))
-}
-
-/// The answer of a call, or a wrong one; where nothing was refused the last cell may be spoilt.
-fn told<T: Copy>(entry: Entry, answer: u8, cells: &mut [T], spoil: impl Fn(T) -> T) -> u8 {
-    if answer != 0 {
-        return answer;
-    }
-    if planted(entry, Fault::Cell) {
-        if let Some(last) = cells.last_mut() {
-            *last = spoil(*last);
-        }
-    }
-    u8::from(planted(entry, Fault::Answer)) * 12
+/// A plan as it is lent.
+#[derive(Clone, Copy)]
+pub struct Slices<'a> {
+    pub small: &'a [u8],
+    pub lengths: &'a [u32],
 }
 
 pub fn plan(lengths: &[u8], p: u8, result: &mut [u8]) -> u8 {
     let answer = unsafe {
         campaign_plan(lengths.as_ptr(), lengths.len(), p, result.as_mut_ptr(), result.len())
     };
-    told(Entry::Plan, answer, result, |byte| byte ^ 1)
+    spoil(Entry::Plan, answer, Part::Result, result);
+    told(Entry::Plan, answer)
 }
 
-pub fn make(lengths: &[u32], p: u8, slots: &mut Slots, prices: &mut [u64]) -> u8 {
+pub fn make(asked: &[u32], p: u8, small: &mut [u8], lengths: &mut [u32], prices: &mut [u64]) -> u8 {
     let answer = unsafe {
         campaign_make(
-            lengths.as_ptr(),
-            lengths.len(),
+            asked.as_ptr(),
+            asked.len(),
             p,
-            slots.small.as_mut_ptr(),
-            slots.small.len(),
-            slots.lengths.as_mut_ptr(),
-            slots.lengths.len(),
+            small.as_mut_ptr(),
+            small.len(),
+            lengths.as_mut_ptr(),
+            lengths.len(),
             prices.as_mut_ptr(),
             prices.len(),
         )
     };
-    told(Entry::Make, answer, prices, |cell| cell ^ 1)
+    spoil(Entry::Make, answer, Part::Small, small);
+    spoil(Entry::Make, answer, Part::Lengths, lengths);
+    spoil(Entry::Make, answer, Part::Result, prices);
+    told(Entry::Make, answer)
 }
 
 /// A call over a lent plan: its two slices, as four arguments before the others.
 macro_rules! of_plan {
-    ($call:ident, $slots:expr $(, $rest:expr)*) => {
+    ($call:ident, $plan:expr $(, $rest:expr)*) => {
         unsafe {
             $call(
-                $slots.small.as_ptr(),
-                $slots.small.len(),
-                $slots.lengths.as_ptr(),
-                $slots.lengths.len()
+                $plan.small.as_ptr(),
+                $plan.small.len(),
+                $plan.lengths.as_ptr(),
+                $plan.lengths.len()
                 $(, $rest)*
             )
         }
     };
 }
 
-pub fn price(slots: &Slots, prices: &mut [u64]) -> u8 {
-    let answer = of_plan!(campaign_price, slots, prices.as_mut_ptr(), prices.len());
-    told(Entry::Price, answer, prices, |cell| cell ^ 1)
+pub fn price(plan: Slices, prices: &mut [u64]) -> u8 {
+    let answer = of_plan!(campaign_price, plan, prices.as_mut_ptr(), prices.len());
+    spoil(Entry::Price, answer, Part::Result, prices);
+    told(Entry::Price, answer)
 }
 
-pub fn step_count(slots: &Slots, count: &mut [u64]) -> u8 {
-    let answer = of_plan!(campaign_step_count, slots, count.as_mut_ptr(), count.len());
-    told(Entry::StepCount, answer, count, |cell| cell ^ 1)
+pub fn step_count(plan: Slices, count: &mut [u64]) -> u8 {
+    let answer = of_plan!(campaign_step_count, plan, count.as_mut_ptr(), count.len());
+    spoil(Entry::StepCount, answer, Part::Result, count);
+    told(Entry::StepCount, answer)
 }
 
-pub fn step_at(slots: &Slots, position: u64, step: &mut [u64]) -> u8 {
-    let answer = of_plan!(campaign_step_at, slots, position, step.as_mut_ptr(), step.len());
-    told(Entry::StepAt, answer, step, |cell| cell ^ 1)
+pub fn step_at(plan: Slices, position: u64, step: &mut [u64]) -> u8 {
+    let answer = of_plan!(campaign_step_at, plan, position, step.as_mut_ptr(), step.len());
+    spoil(Entry::StepAt, answer, Part::Result, step);
+    told(Entry::StepAt, answer)
 }
 
-pub fn held(slots: &Slots, position: u64, board: u32, cells: &mut [u64]) -> u8 {
-    let answer = of_plan!(campaign_held, slots, position, board, cells.as_mut_ptr(), cells.len());
-    told(Entry::Held, answer, cells, |cell| cell ^ 1)
+pub fn held(plan: Slices, position: u64, board: u32, cells: &mut [u64]) -> u8 {
+    let answer = of_plan!(campaign_held, plan, position, board, cells.as_mut_ptr(), cells.len());
+    spoil(Entry::Held, answer, Part::Result, cells);
+    told(Entry::Held, answer)
 }
 
 pub fn step(
-    slots: &Slots,
+    plan: Slices,
     array: &[i32],
     work: &mut [i64],
     position: &mut u64,
     step: &mut [u64],
 ) -> u8 {
-    let (work_ptr, work_len) = (work.as_mut_ptr(), work.len());
+    let (array_ptr, work_ptr) = (array.as_ptr(), work.as_mut_ptr());
     let answer = of_plan!(
         campaign_step,
-        slots,
-        array.as_ptr(),
+        plan,
+        array_ptr,
         array.len(),
         work_ptr,
-        work_len,
+        work.len(),
         position,
         step.as_mut_ptr(),
         step.len()
     );
-    if answer == 0 && planted(Entry::Step, Fault::Position) {
-        *position += 1;
-    }
-    told(Entry::Step, answer, work, |cell| cell ^ 1)
+    spoil(Entry::Step, answer, Part::Work, work);
+    spoil(Entry::Step, answer, Part::Position, slice::from_mut(position));
+    spoil(Entry::Step, answer, Part::Result, step);
+    told(Entry::Step, answer)
 }
 
-pub fn view(slots: &Slots, work: &[i64], position: u64, board: u32, part: &mut [u64]) -> u8 {
+pub fn view(plan: Slices, work: &[i64], position: u64, board: u32, part: &mut [u64]) -> u8 {
     let answer = of_plan!(
         campaign_view,
-        slots,
+        plan,
         work.as_ptr(),
         work.len(),
         position,
@@ -243,29 +209,33 @@ pub fn view(slots: &Slots, work: &[i64], position: u64, board: u32, part: &mut [
         part.as_mut_ptr(),
         part.len()
     );
-    told(Entry::View, answer, part, |cell| cell ^ 1)
+    spoil(Entry::View, answer, Part::Result, part);
+    told(Entry::View, answer)
 }
 
-pub fn gather(slots: &Slots, work: &[i64], position: u64, result: &mut [i64]) -> u8 {
+pub fn gather(plan: Slices, work: &[i64], position: u64, result: &mut [i64]) -> u8 {
     let answer = of_plan!(
         campaign_gather,
-        slots,
+        plan,
         work.as_ptr(),
         work.len(),
         position,
         result.as_mut_ptr(),
         result.len()
     );
-    told(Entry::Gather, answer, result, |cell| cell ^ 1)
+    spoil(Entry::Gather, answer, Part::Result, result);
+    told(Entry::Gather, answer)
 }
 
 pub fn scan(tape: &[u8], scan: &mut [u64]) -> u8 {
     let answer = unsafe { campaign_scan(tape.as_ptr(), tape.len(), scan.as_mut_ptr(), scan.len()) };
-    told(Entry::Scan, answer, scan, |cell| cell ^ 1)
+    spoil(Entry::Scan, answer, Part::Result, scan);
+    told(Entry::Scan, answer)
 }
 
 pub fn fill(tape: &[u8], array: &mut [i32]) -> u8 {
     let answer =
         unsafe { campaign_fill(tape.as_ptr(), tape.len(), array.as_mut_ptr(), array.len()) };
-    told(Entry::Fill, answer, array, |point| point ^ 1)
+    spoil(Entry::Fill, answer, Part::Result, array);
+    told(Entry::Fill, answer)
 }

@@ -1,6 +1,7 @@
 //! The proved engine through its static library, beside the independent engine.
 
 mod engine;
+mod faults;
 mod lawful;
 mod library;
 mod memory;
@@ -10,6 +11,7 @@ mod selftest;
 mod slots;
 mod steps;
 mod tapes;
+mod watched;
 
 use std::env;
 use std::process::ExitCode;

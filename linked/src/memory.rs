@@ -9,12 +9,12 @@ use compare::steps::Step;
 use compare::totals::{direct_sums, direct_sums_by_rows};
 
 use crate::engine::Engine;
+use crate::faults::{spoil, Entry, Lend, Part};
 use crate::lawful::{every, fitting, lawful, most_planned, most_steps};
 use crate::library;
 use crate::plans::shape;
-
 use crate::slots::{judged, spelled, told, Slots};
-use crate::Count;
+use crate::{watched, Count};
 
 /// Cells of a step's answer.
 const TOLD: usize = 5;
@@ -53,8 +53,8 @@ impl Lent {
         self.engine.as_ref().map_or_else(|&number| Err(number), answer)
     }
 
-    /// A step that tells its answer in a slice of some length: that slice with the cells
-    /// around it, the work area and the position. Gives the refusal, or 0.
+    /// A step that tells its answer in a slice of some length: that slice, the work area and
+    /// the position. Gives the refusal, or 0.
     fn step(
         &self,
         count: &mut Count,
@@ -65,9 +65,9 @@ impl Lent {
     ) -> u8 {
         let at = *position;
         let (mut due_work, mut due_position) = (work.to_vec(), at);
-        let mut due_out: [u64; 10] = std::array::from_fn(|i| frame(i) as u64);
+        let mut due_out: [u64; 8] = std::array::from_fn(u64::nobodys);
         let mut out = due_out;
-        let answer = library::step(&self.slots, array, work, position, &mut out[1..=len]);
+        let answer = watched::step(&self.slots, array, work, position, &mut out[..len]);
         let due = self.due(|engine| match len {
             TOLD => engine.step(array, &mut due_work, &mut due_position),
             _ => engine.step(array, &mut due_work.clone(), &mut at.clone()).and(Err(13)),
@@ -75,7 +75,7 @@ impl Lent {
         let due_answer = due.map_or_else(
             |number| number,
             |cells| {
-                due_out[1..=len].copy_from_slice(&cells);
+                due_out[..len].copy_from_slice(&cells);
                 0
             },
         );
@@ -93,42 +93,20 @@ impl Lent {
 
     fn view(&self, count: &mut Count, work: &[i64], position: u64, board: u32, fit: Fit) -> u8 {
         let due = self.due(|engine| engine.view(work, position, board)).map(|part| part.to_vec());
-        let call = |part: &mut [u64]| library::view(&self.slots, work, position, board, part);
+        let call = |part: &mut [u64]| watched::view(&self.slots, work, position, board, part);
         let what = || format!("view of board {board} at {position} of {:?}", self.slots);
         shown(count, due, fit, call, what)
     }
 
     fn gather(&self, count: &mut Count, work: &[i64], position: u64, fit: Fit) -> u8 {
         let due = self.due(|engine| engine.gather(work, position));
-        let call = |result: &mut [i64]| library::gather(&self.slots, work, position, result);
+        let call = |result: &mut [i64]| watched::gather(&self.slots, work, position, result);
         let what = || format!("gather at {position} of {:?}", self.slots);
         shown(count, due, fit, call, what)
     }
 }
 
-/// What a lent slice and the cells around it hold before a call.
-fn frame(i: usize) -> i64 {
-    0x5a5a_0000_0000_00a5 ^ i as i64
-}
-
-/// A cell of a lent slice.
-trait Lend: Copy + PartialEq {
-    fn before(i: usize) -> Self;
-}
-
-impl Lend for i64 {
-    fn before(i: usize) -> i64 {
-        frame(i)
-    }
-}
-
-impl Lend for u64 {
-    fn before(i: usize) -> u64 {
-        frame(i) as u64
-    }
-}
-
-/// A call that fills a lent slice: its answer, and the slice with the cells around it.
+/// A call that fills a lent slice: its answer, and the slice.
 fn shown<T: Lend>(
     count: &mut Count,
     due: Result<Vec<T>, u8>,
@@ -142,14 +120,14 @@ fn shown<T: Lend>(
         Fit::Short => right.saturating_sub(1),
         Fit::Long => right + 1,
     };
-    let mut cells: Vec<T> = (0..len + 2).map(T::before).collect();
+    let mut cells: Vec<T> = (0..len).map(T::nobodys).collect();
     let mut due_cells = cells.clone();
-    let answer = call(&mut cells[1..=len]);
+    let answer = call(&mut cells);
     let due_answer = match due {
         Err(number) => number,
         Ok(_) if len != right => 13,
         Ok(part) => {
-            due_cells[1..=len].copy_from_slice(&part);
+            due_cells = part;
             0
         }
     };
@@ -183,7 +161,7 @@ pub fn check(seed: u64, n: u64) -> Count {
     }
     requested(&mut count, &mut random, n);
     largest(&mut count, &mut random);
-    refusals(&mut count, &mut random);
+    every_refusal(&mut count, &mut random, 40);
     count
 }
 
@@ -191,6 +169,25 @@ pub fn check(seed: u64, n: u64) -> Count {
 pub fn requests(seed: u64, n: u64) -> Count {
     let mut count = Count { quiet: true, ..Count::default() };
     requested(&mut count, &mut Random::new(seed), n);
+    count
+}
+
+/// Refusals alone, so many plans damaged.
+pub fn refusals(seed: u64, n: u64) -> Count {
+    let mut count = Count { quiet: true, ..Count::default() };
+    every_refusal(&mut count, &mut Random::new(seed), n);
+    count
+}
+
+/// Runs alone, as the largest plans have them.
+pub fn runs(seed: u64, n: u64) -> Count {
+    let mut count = Count { quiet: true, ..Count::default() };
+    let random = &mut Random::new(seed);
+    for _ in 0..n {
+        let lengths = small_shape(random);
+        let plan = some_plan(random, &lengths, fitting(&lengths, 3), true);
+        run(&mut count, random, &plan);
+    }
     count
 }
 
@@ -244,10 +241,10 @@ fn whole(count: &mut Count, random: &mut Random, plan: &Plan) {
         if position != at as u64 + 1 {
             return;
         }
-        show(count, random, &lent, &mut work, position);
+        show(count, random, &lent, &work, position);
         if let Step::Finish(choice) = *step {
             let sums = direct_sums(&plan.lengths, &array, choice);
-            let call = |result: &mut [i64]| library::gather(&lent.slots, &work, position, result);
+            let call = |result: &mut [i64]| watched::gather(&lent.slots, &work, position, result);
             let what = || format!("totals of {choice} at {position} of {plan:?}");
             shown(count, Ok(sums), Fit::Right, call, what);
         }
@@ -256,7 +253,7 @@ fn whole(count: &mut Count, random: &mut Random, plan: &Plan) {
     for past in [total, total, total + 1, total + random.below(1 << 40), u64::MAX] {
         let mut position = past;
         lent.step(count, &array, &mut work, &mut position, TOLD);
-        show(count, random, &lent, &mut work, past);
+        show(count, random, &lent, &work, past);
     }
 }
 
@@ -271,10 +268,8 @@ fn passed_over(count: &mut Count, lent: &Lent, array: &[i32], work: &mut [i64], 
     lent.gather(count, &work[..area - 1], position, Fit::Right);
 }
 
-/// Every board's view after a finish and one elsewhere, boards past the last, and gathers;
-/// they leave the work area as it was.
-fn show(count: &mut Count, random: &mut Random, lent: &Lent, work: &mut [i64], position: u64) {
-    let before = work.to_vec();
+/// Every board's view after a finish and one elsewhere, boards past the last, and gathers.
+fn show(count: &mut Count, random: &mut Random, lent: &Lent, work: &[i64], position: u64) {
     let boards = lent.engine().plan.boards() as u32;
     let viewed = match lent.engine().finished(work, position) {
         Ok(_) => boards,
@@ -287,8 +282,6 @@ fn show(count: &mut Count, random: &mut Random, lent: &Lent, work: &mut [i64], p
         lent.view(count, work, position, random.below(u64::from(boards)) as u32, fit);
         lent.gather(count, work, position, fit);
     }
-    // The calls above could have written through what they were only to read.
-    count.note(*black_box(work) == before, || format!("work area written at {position}"));
 }
 
 /// A step from any position over contents that no run left, and what is shown after it.
@@ -300,7 +293,7 @@ fn anywhere(count: &mut Count, random: &mut Random, plan: &Plan) {
         let mut work = foreign(random, engine.area());
         let mut position = random.between(0, engine.total());
         lent.step(count, &array, &mut work, &mut position, TOLD);
-        show(count, random, &lent, &mut work, position);
+        show(count, random, &lent, &work, position);
     }
 }
 
@@ -331,35 +324,41 @@ fn largest(count: &mut Count, random: &mut Random) {
     }
 }
 
+/// The calls are lent the memory itself, which is too large to be copied for each.
 fn run(count: &mut Count, random: &mut Random, plan: &Plan) {
     let engine = Engine::new(plan.clone());
     let slots = spelled(plan);
-    let array = any_array(random, engine.points());
+    let plan_lent = slots.slices();
+    let mut array = any_array(random, engine.points());
+    let before = array.clone();
     let mut work = foreign(random, engine.area());
     let (mut position, mut out) = (0, [0; TOLD]);
     for (at, step) in engine.steps.iter().map(Some).chain([None]).enumerate() {
-        let answer = library::step(&slots, &array, &mut work, &mut position, &mut out);
+        let answer = library::step(plan_lent, &array, &mut work, &mut position, &mut out);
         let due = (at as u64 + 1).min(engine.total());
         count.note((answer, out, position) == (0, told(step), due), || {
             format!("step at {at} of {plan:?}: {answer} {out:?}, position {position}")
         });
         if let Some(&Step::Finish(choice)) = step {
             let sums = direct_sums_by_rows(&plan.lengths, &array, choice);
-            let call = |result: &mut [i64]| library::gather(&slots, &work, position, result);
+            let gather = |result: &mut [i64]| library::gather(plan_lent, &work, position, result);
             let what = || format!("totals of {choice} at {position} of {plan:?}");
-            shown(count, Ok(sums), Fit::Right, call, what);
+            shown(count, Ok(sums), Fit::Right, gather, what);
         }
     }
+    spoil(Entry::Step, 0, Part::Array, &mut array);
+    let kept = *black_box(&mut array) == before;
+    count.note(kept, || format!("array written by a step of {plan:?}"));
 }
 
 const LINES: [u8; 10] = [3, 4, 5, 6, 8, 9, 10, 11, 12, 13];
 
-fn refusals(count: &mut Count, random: &mut Random) {
+fn every_refusal(count: &mut Count, random: &mut Random, n: u64) {
     for set in 0..1 << LINES.len() {
         let chosen = LINES.iter().enumerate().filter(|&(i, _)| set >> i & 1 == 1);
         lines(count, random, &chosen.map(|(_, &line)| line).collect::<Vec<u8>>());
     }
-    for _ in 0..40 {
+    for _ in 0..n {
         let lengths = small_shape(random);
         let p = fitting(&lengths, random.below(4) as u8);
         let plan = lawful(random, &lengths, p);

@@ -7,8 +7,9 @@ use compare::plan::{planned, Plan};
 use compare::random::Random;
 use compare::{price, search};
 
-use crate::library::{make, plan};
+use crate::library;
 use crate::slots::{spelled as slots_of, Slots, SLOTS, SMALL};
+use crate::watched::{make, plan};
 use crate::{nanoseconds, Count};
 
 fn bytes(lengths: &[u64]) -> Vec<u8> {
@@ -23,7 +24,7 @@ pub fn check(seed: u64, n: u64) -> Count {
         priced(&mut count, &lengths, 0, LENS[0]);
     }
     requested(&mut count, &mut random, n);
-    refusals(&mut count, &mut random);
+    every_refusal(&mut count, &mut random, 255);
     count
 }
 
@@ -31,6 +32,13 @@ pub fn check(seed: u64, n: u64) -> Count {
 pub fn requests(seed: u64, n: u64) -> Count {
     let mut count = Count { quiet: true, ..Count::default() };
     requested(&mut count, &mut Random::new(seed), n);
+    count
+}
+
+/// Refusals alone, up to a p.
+pub fn refusals(seed: u64, highest_p: u64) -> Count {
+    let mut count = Count { quiet: true, ..Count::default() };
+    every_refusal(&mut count, &mut Random::new(seed), highest_p as u8);
     count
 }
 
@@ -165,7 +173,7 @@ pub fn shape(random: &mut Random, mut room: u64) -> Vec<u64> {
 }
 
 /// Every refusal, alone and with others due, and result slices of wrong length.
-fn refusals(count: &mut Count, random: &mut Random) {
+fn every_refusal(count: &mut Count, random: &mut Random, highest_p: u8) {
     for len in 0..40 {
         for p in [0, 3, 10, 11, 255] {
             let any: Vec<u8> = (0..len).map(|_| random.below(4) as u8).collect();
@@ -186,7 +194,7 @@ fn refusals(count: &mut Count, random: &mut Random) {
         &[2, 2, 2],
     ];
     for lengths in shapes {
-        for p in 0..=255 {
+        for p in 0..=highest_p {
             for lens in LENS {
                 priced(count, lengths, p, lens);
             }
@@ -206,7 +214,7 @@ pub fn bench() {
         let spelled = bytes(&lengths);
         let mut result = [0; 16];
         let proved = nanoseconds(2_000, || {
-            black_box(plan(black_box(&spelled), 10, &mut result));
+            black_box(library::plan(black_box(&spelled), 10, &mut result));
         });
         let independent = nanoseconds(2_000, || {
             black_box(planned(black_box(&lengths), 10)).ok();

@@ -58,7 +58,8 @@ impl Campaign {
         let started = Instant::now();
         loop {
             let begun = Instant::now();
-            let refusal = step(&self.slots, &self.points, &mut self.work, &mut position, &mut out);
+            let refusal =
+                step(self.slots.slices(), &self.points, &mut self.work, &mut position, &mut out);
             assert_eq!(refusal, 0, "a lawful run");
             match out[0] {
                 EXPAND if position == 1 => spent.root += since(begun),
@@ -66,7 +67,7 @@ impl Campaign {
                 TRANSFER => spent.transfers += since(begun),
                 FINISH => {
                     let result = &mut self.results[out[3] as usize];
-                    let refusal = gather(&self.slots, &self.work, position, result);
+                    let refusal = gather(self.slots.slices(), &self.work, position, result);
                     spent.gathers += since(begun);
                     assert_eq!(refusal, 0, "a lawful gather");
                 }

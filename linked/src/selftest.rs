@@ -1,48 +1,114 @@
 //! Faults planted between the library and each comparison: every one must be seen.
 
-use crate::library::{plant, Entry, Fault};
+use crate::faults::{plant, Change, Entry, Fault, Part, When};
 use crate::{memory, plans, steps, tapes, Count};
 
-type Check = fn(u64, u64) -> Count;
+/// A comparison with its seed, and how much of it is run.
+type Loop = (fn(u64, u64) -> Count, u64, u64);
 
-const FAULTS: [(Entry, Fault, Check); 23] = [
-    (Entry::Plan, Fault::Answer, plans::requests),
-    (Entry::Plan, Fault::Cell, plans::requests),
-    (Entry::Make, Fault::Answer, plans::requests),
-    (Entry::Make, Fault::Cell, plans::requests),
-    (Entry::Price, Fault::Answer, steps::requests),
-    (Entry::Price, Fault::Cell, steps::requests),
-    (Entry::StepCount, Fault::Answer, steps::requests),
-    (Entry::StepCount, Fault::Cell, steps::requests),
-    (Entry::StepAt, Fault::Answer, steps::requests),
-    (Entry::StepAt, Fault::Cell, steps::requests),
-    (Entry::Held, Fault::Answer, steps::requests),
-    (Entry::Held, Fault::Cell, steps::requests),
-    (Entry::Step, Fault::Answer, memory::requests),
-    (Entry::Step, Fault::Cell, memory::requests),
-    (Entry::Step, Fault::Position, memory::requests),
-    (Entry::View, Fault::Answer, memory::requests),
-    (Entry::View, Fault::Cell, memory::requests),
-    (Entry::Gather, Fault::Answer, memory::requests),
-    (Entry::Gather, Fault::Cell, memory::requests),
-    (Entry::Scan, Fault::Answer, tapes::made),
-    (Entry::Scan, Fault::Cell, tapes::made),
-    (Entry::Fill, Fault::Answer, tapes::made),
-    (Entry::Fill, Fault::Cell, tapes::made),
+/// An entry with the loops that call it: one that is mostly taken, one that is mostly refused.
+struct Trial {
+    entry: Entry,
+    taken: Loop,
+    refused: Loop,
+    /// With the number of their cells, where it is the same in each call.
+    written: &'static [(Part, Option<usize>)],
+    read: &'static [Part],
+}
+
+const PLAN: &[Part] = &[Part::Small, Part::Lengths];
+const PLAN_AND_WORK: &[Part] = &[Part::Small, Part::Lengths, Part::Work];
+
+const fn planning(entry: Entry, written: &'static [(Part, Option<usize>)]) -> Trial {
+    let (taken, refused): (Loop, Loop) = ((plans::requests, 7, 40), (plans::refusals, 7, 12));
+    Trial { entry, taken, refused, written, read: &[Part::Asked] }
+}
+
+const fn listing(entry: Entry, written: &'static [(Part, Option<usize>)]) -> Trial {
+    let (taken, refused): (Loop, Loop) = ((steps::requests, 7, 4), (steps::refusals, 7, 1));
+    Trial { entry, taken, refused, written, read: PLAN }
+}
+
+const fn running(
+    entry: Entry,
+    written: &'static [(Part, Option<usize>)],
+    read: &'static [Part],
+) -> Trial {
+    let (taken, refused): (Loop, Loop) = ((memory::requests, 7, 4), (memory::refusals, 7, 1));
+    Trial { entry, taken, refused, written, read }
+}
+
+const fn reading(entry: Entry, written: &'static [(Part, Option<usize>)]) -> Trial {
+    let (taken, refused): (Loop, Loop) = ((tapes::made, 7, 40), (tapes::refusals, 7, 1));
+    Trial { entry, taken, refused, written, read: &[Part::Tape] }
+}
+
+const TRIALS: [Trial; 11] = [
+    planning(Entry::Plan, &[(Part::Result, None)]),
+    planning(
+        Entry::Make,
+        &[(Part::Small, Some(18)), (Part::Lengths, Some(8)), (Part::Result, Some(3))],
+    ),
+    listing(Entry::Price, &[(Part::Result, Some(3))]),
+    listing(Entry::StepCount, &[(Part::Result, Some(1))]),
+    listing(Entry::StepAt, &[(Part::Result, Some(5))]),
+    listing(Entry::Held, &[(Part::Result, Some(1))]),
+    running(
+        Entry::Step,
+        &[(Part::Work, None), (Part::Position, Some(1)), (Part::Result, Some(5))],
+        &[Part::Small, Part::Lengths, Part::Array],
+    ),
+    running(Entry::View, &[(Part::Result, Some(2))], PLAN_AND_WORK),
+    running(Entry::Gather, &[(Part::Result, None)], PLAN_AND_WORK),
+    reading(Entry::Scan, &[(Part::Result, Some(11))]),
+    reading(Entry::Fill, &[(Part::Result, None)]),
 ];
+
+/// What can be wrong with a call: its answer, each cell that it writes, the ends of a slice that
+/// has any length or is only read, and the cells around each slice.
+fn changes(trial: &Trial) -> Vec<Change> {
+    let mut changes = vec![Change::Answer(1), Change::Answer(13)];
+    let any_length = trial.read.iter().map(|&part| (part, None));
+    for (part, cells) in trial.written.iter().copied().chain(any_length) {
+        match cells {
+            Some(cells) => changes.extend((0..cells).map(|at| Change::Cell(part, at))),
+            None => changes.extend([Change::Cell(part, 0), Change::Last(part)]),
+        }
+        changes.extend([Change::Before(part), Change::After(part)]);
+    }
+    changes
+}
+
+/// What whole runs compare themselves: the steps' answers, positions and what they tell, and the
+/// array in the end.
+fn changes_in_runs() -> Vec<Change> {
+    let mut changes = vec![Change::Answer(1), Change::Answer(13), Change::Cell(Part::Position, 0)];
+    changes.extend((0..5).map(|at| Change::Cell(Part::Result, at)));
+    changes.extend([Change::Cell(Part::Array, 0), Change::Last(Part::Array)]);
+    changes
+}
 
 /// Each comparison is clean without a fault, and sees each fault.
 pub fn check() -> Count {
     let mut count = Count::default();
-    for check in [plans::requests, steps::requests, memory::requests, tapes::made] {
-        let clean = check(7, 40);
-        count.note(clean.passed > 0 && clean.failed == 0, || "a clean run fails".into());
+    for trial in &TRIALS {
+        for (when, compare) in [(When::Taken, trial.taken), (When::Refused, trial.refused)] {
+            try_all(&mut count, trial.entry, when, compare, changes(trial));
+        }
     }
-    for (entry, fault, check) in FAULTS {
-        plant(Some((entry, fault)));
-        let seen = check(7, 40).failed > 0;
-        plant(None);
-        count.note(seen, || format!("{fault:?} of {entry:?} is not seen"));
-    }
+    try_all(&mut count, Entry::Step, When::Taken, (memory::runs, 7, 4), changes_in_runs());
     count
+}
+
+fn try_all(count: &mut Count, entry: Entry, when: When, compare: Loop, changes: Vec<Change>) {
+    let (compare, seed, n) = compare;
+    let clean = compare(seed, n);
+    let what = || format!("{entry:?}, {when:?}: without a fault {} fail", clean.failed);
+    count.note(clean.passed > 0 && clean.failed == 0, what);
+    for change in changes {
+        plant(Some(Fault { entry, when, change }));
+        let seen = compare(seed, n).failed > 0;
+        plant(None);
+        count.note(seen, || format!("{change:?} of {entry:?}, {when:?}, is not seen"));
+    }
 }

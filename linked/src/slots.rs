@@ -5,6 +5,8 @@ use compare::plan::Plan;
 use compare::random::Random;
 use compare::steps::{Step, Transfer};
 
+use crate::library::Slices;
+
 pub const SLOTS: usize = 8;
 pub const ORDER: usize = 2;
 pub const EXPONENTS: usize = ORDER + SLOTS;
@@ -19,6 +21,10 @@ pub struct Slots {
 }
 
 impl Slots {
+    pub fn slices(&self) -> Slices<'_> {
+        Slices { small: &self.small, lengths: &self.lengths }
+    }
+
     /// Makes a line of a plan's checks due, where the plan has three axes or more; line 5 by two lengths.
     pub fn break_line(&mut self, line: u8) {
         match line {

@@ -12,11 +12,12 @@ use compare::price;
 use compare::random::Random;
 use compare::steps::{self, Step};
 
+use crate::faults::Lend;
 use crate::lawful::{every, fitting, lawful, most_planned, most_steps};
 use crate::library;
 use crate::plans::request;
 use crate::slots::{judged, spelled, told, Slots};
-use crate::{nanoseconds, Count};
+use crate::{nanoseconds, watched, Count};
 
 #[derive(Clone, Copy, Debug)]
 enum Call {
@@ -38,10 +39,10 @@ impl Call {
 
     fn make(self, slots: &Slots, out: &mut [u64]) -> u8 {
         match self {
-            Call::Price => library::price(slots, out),
-            Call::Count => library::step_count(slots, out),
-            Call::Step(at) => library::step_at(slots, at, out),
-            Call::Held(at, board) => library::held(slots, at, board, out),
+            Call::Price => watched::price(slots, out),
+            Call::Count => watched::step_count(slots, out),
+            Call::Step(at) => watched::step_at(slots, at, out),
+            Call::Held(at, board) => watched::held(slots, at, board, out),
         }
     }
 }
@@ -85,9 +86,9 @@ impl Rack<'_> {
     }
 }
 
-/// A call with a slice of some length, and the cells around it.
+/// A call with a slice of some length.
 fn expect(count: &mut Count, slots: &Slots, call: Call, len: usize, due: Due) {
-    let before: [u64; 8] = std::array::from_fn(|i| 0xa5a5_0000_0000_005a ^ i as u64);
+    let before: [u64; 8] = std::array::from_fn(u64::nobodys);
     let mut after = before;
     let answer = call.make(slots, &mut after[..len]);
     let mut written = before;
@@ -112,7 +113,7 @@ pub fn check(seed: u64, n: u64) -> Count {
     }
     requested(&mut count, &mut random, n);
     largest(&mut count, &mut random);
-    refusals(&mut count, &mut random);
+    every_refusal(&mut count, &mut random, 60);
     count
 }
 
@@ -120,6 +121,13 @@ pub fn check(seed: u64, n: u64) -> Count {
 pub fn requests(seed: u64, n: u64) -> Count {
     let mut count = Count { quiet: true, ..Count::default() };
     requested(&mut count, &mut Random::new(seed), n);
+    count
+}
+
+/// Refusals alone, so many plans damaged.
+pub fn refusals(seed: u64, n: u64) -> Count {
+    let mut count = Count { quiet: true, ..Count::default() };
+    every_refusal(&mut count, &mut Random::new(seed), n);
     count
 }
 
@@ -200,12 +208,12 @@ fn largest(count: &mut Count, random: &mut Random) {
 
 const LINES: [u8; 8] = [3, 4, 5, 6, 8, 9, 12, 13];
 
-fn refusals(count: &mut Count, random: &mut Random) {
+fn every_refusal(count: &mut Count, random: &mut Random, n: u64) {
     for set in 0..1 << LINES.len() {
         let chosen = LINES.iter().enumerate().filter(|&(i, _)| set >> i & 1 == 1);
         lines(count, &chosen.map(|(_, &line)| line).collect::<Vec<u8>>());
     }
-    for _ in 0..60 {
+    for _ in 0..n {
         let axes = random.between(1, 8);
         let lengths: Vec<u64> = (0..axes).map(|_| random.between(1, 4)).collect();
         let p = fitting(&lengths, random.below(4) as u8);
@@ -256,7 +264,7 @@ pub fn bench() {
         let total = steps.len() as u64;
         let mut out = [0; 5];
         let mut step = |at| {
-            black_box(Call::Step(at).make(black_box(&slots), &mut out));
+            black_box(library::step_at(black_box(slots.slices()), at, &mut out));
         };
         let proved = nanoseconds(1, || (0..total).for_each(&mut step));
         let independent = nanoseconds(1, || {
@@ -279,8 +287,8 @@ fn bench_held(plan: &Plan, steps: &[Step]) {
     let mut out = [0];
     let proved = nanoseconds(1, || {
         for (at, board) in (0..1_000).map(place) {
-            let call = Call::Held(at as u64, board as u32);
-            black_box(call.make(black_box(&slots), &mut out));
+            let slices = black_box(slots.slices());
+            black_box(library::held(slices, at as u64, board as u32, &mut out));
         }
     });
     let independent = nanoseconds(1, || {

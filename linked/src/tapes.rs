@@ -8,7 +8,8 @@ use compare::random::Random;
 use compare::spell;
 use compare::tape::{self, Run, Tape};
 
-use crate::library::{fill, scan};
+use crate::library;
+use crate::watched::{fill, scan};
 use crate::{nanoseconds, Count};
 
 /// Cells of a scan.
@@ -21,11 +22,7 @@ pub fn check(seed: u64, n: u64) -> Count {
     for index in 0..n {
         expect(&mut count, &make::made(seed, index).tape);
     }
-    let mut random = Random::new(seed);
-    for _ in 0..40 {
-        let commands = small(&mut random);
-        damaged(&mut count, &mut random, &commands);
-    }
+    each_damage(&mut count, &mut Random::new(seed), 40);
     longest(&mut count);
     count
 }
@@ -35,6 +32,20 @@ pub fn made(seed: u64, n: u64) -> Count {
     let mut count = Count { quiet: true, ..Count::default() };
     (0..n).for_each(|index| expect(&mut count, &make::made(seed, index).tape));
     count
+}
+
+/// Damaged tapes alone.
+pub fn refusals(seed: u64, n: u64) -> Count {
+    let mut count = Count { quiet: true, ..Count::default() };
+    each_damage(&mut count, &mut Random::new(seed), n);
+    count
+}
+
+fn each_damage(count: &mut Count, random: &mut Random, n: u64) {
+    for _ in 0..n {
+        let commands = small(random);
+        damaged(count, random, &commands);
+    }
 }
 
 /// What is due for any bytes, by the scan and by filling slices around the due length.
@@ -161,7 +172,7 @@ fn longest(count: &mut Count) {
 fn long(len: usize, command: &[u8]) -> Vec<u8> {
     let mut rest = len - 3;
     let mut axes = 0;
-    while rest % command.len() != 0 {
+    while !rest.is_multiple_of(command.len()) {
         axes += 1;
         rest -= 3;
     }
@@ -187,8 +198,8 @@ pub fn bench() {
         let mut slice = vec![0; points as usize];
         let mut out = [0; SCANNED];
         let proved = nanoseconds(200, || {
-            black_box(scan(black_box(&bytes), &mut out));
-            black_box(fill(black_box(&bytes), &mut slice));
+            black_box(library::scan(black_box(&bytes), &mut out));
+            black_box(library::fill(black_box(&bytes), &mut slice));
         });
         let independent = nanoseconds(200, || {
             let read = tape::read(black_box(&bytes)).expect("a lawful tape");

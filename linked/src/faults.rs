@@ -1,0 +1,117 @@
+//! Faults that can be planted between the library and a comparison.
+
+use std::cell::Cell;
+
+#[derive(Clone, Copy, Debug, PartialEq)]
+pub enum Entry {
+    Plan,
+    Make,
+    Price,
+    StepCount,
+    StepAt,
+    Held,
+    Step,
+    View,
+    Gather,
+    Scan,
+    Fill,
+}
+
+/// What an entry is lent: `Small` and `Lengths` are a plan's two slices, `Asked` the lengths to
+/// plan for.
+#[derive(Clone, Copy, Debug, PartialEq)]
+pub enum Part {
+    Asked,
+    Small,
+    Lengths,
+    Array,
+    Work,
+    Position,
+    Tape,
+    Result,
+}
+
+/// The calls that have the fault: those that the library takes, or those that it refuses.
+#[derive(Clone, Copy, Debug, PartialEq)]
+pub enum When {
+    Taken,
+    Refused,
+}
+
+#[derive(Clone, Copy, Debug, PartialEq)]
+pub enum Change {
+    /// Another number is answered: so many lines further, with 0 after 13.
+    Answer(u8),
+    /// The cell of that number, or the last, is another.
+    Cell(Part, usize),
+    Last(Part),
+    /// The cell next to the slice is another.
+    Before(Part),
+    After(Part),
+}
+
+#[derive(Clone, Copy, Debug, PartialEq)]
+pub struct Fault {
+    pub entry: Entry,
+    pub when: When,
+    pub change: Change,
+}
+
+thread_local! {
+    static PLANTED: Cell<Option<Fault>> = const { Cell::new(None) };
+}
+
+pub fn plant(fault: Option<Fault>) {
+    PLANTED.set(fault);
+}
+
+/// What a call that answers so has planted.
+pub fn planted(entry: Entry, answer: u8) -> Option<Change> {
+    let fault = PLANTED.get()?;
+    let when = if answer == 0 { When::Taken } else { When::Refused };
+    (fault.entry == entry && fault.when == when).then_some(fault.change)
+}
+
+/// The answer, or another.
+pub fn told(entry: Entry, answer: u8) -> u8 {
+    match planted(entry, answer) {
+        Some(Change::Answer(further)) => (answer + further) % 14,
+        _ => answer,
+    }
+}
+
+/// A cell of lent memory.
+pub trait Lend: Copy + PartialEq {
+    /// What memory holds that no call is to write.
+    fn nobodys(i: usize) -> Self;
+
+    fn spoilt(self) -> Self;
+}
+
+macro_rules! lend {
+    ($($cell:ty)*) => {
+        $(impl Lend for $cell {
+            fn nobodys(i: usize) -> $cell {
+                0x5a5a_5a5a_0000_00a5_u64 as $cell ^ i as $cell
+            }
+
+            fn spoilt(self) -> $cell {
+                self ^ 1
+            }
+        })*
+    };
+}
+
+lend!(u8 u32 u64 i32 i64);
+
+/// Changes the cell of a slice that is planted, if one is.
+pub fn spoil<T: Lend>(entry: Entry, answer: u8, part: Part, cells: &mut [T]) {
+    let cell = match planted(entry, answer) {
+        Some(Change::Cell(spoilt, at)) if spoilt == part => cells.get_mut(at),
+        Some(Change::Last(spoilt)) if spoilt == part => cells.last_mut(),
+        _ => None,
+    };
+    if let Some(cell) = cell {
+        *cell = cell.spoilt();
+    }
+}
