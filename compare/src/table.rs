@@ -170,7 +170,7 @@ fn refused() -> Vec<Case> {
 
 fn refused_for_the_first_of_several() -> Vec<Case> {
     let case = |name, says, tape| Case { name, says, tape };
-    let nine_thousand = vec![repeated(8999, 1), repeated(1, 2)];
+    let nine_thousand = |p| spell::tape(&[2], p, vec![repeated(8999, 1), repeated(1, 2)]);
     vec![
         case(
             "form-before-length",
@@ -200,13 +200,9 @@ fn refused_for_the_first_of_several() -> Vec<Case> {
         case(
             "boards-before-points",
             "refused 7: p 2 for length 2, and 9000 points",
-            spell::tape(&[2], 2, nine_thousand.clone()),
+            nine_thousand(2),
         ),
-        case(
-            "points-before-limit",
-            "refused 10: 9000 points for length 2",
-            spell::tape(&[2], 0, nine_thousand),
-        ),
+        case("points-before-limit", "refused 10: 9000 points for length 2", nine_thousand(0)),
     ]
 }
 

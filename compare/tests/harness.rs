@@ -12,9 +12,13 @@ use compare::pieces::Pieces;
 use compare::program;
 use compare::random::Random;
 
-/// Cases besides the tapes: three tapes into four outputs, and one into an output that fails
-/// at one of its seven lines.
-const SHUT: usize = 3 * 4 + 7;
+/// What the paper has the program print.
+const REPORT: &str =
+    "plan 2 1 2 14 4\ndim 1 3 1\ndim 0 2 0\ngroup 2 5 3 -3\ngroup 0 5\ngroup 1 2 3\nend 3\n";
+
+/// Cases besides the tapes: three tapes into four outputs, and one into an output with every room
+/// that its report does not fit in.
+const SHUT: usize = 3 * 4 + REPORT.len();
 
 /// Passed and failed, by the last line.
 fn counts(output: &std::process::Output) -> (usize, usize) {
@@ -90,20 +94,59 @@ fn a_failed_output_is_judged() {
     assert_eq!(broken, (20 + SHUT, 0), "{told}");
 }
 
-/// Line by line, as the other program writes: one that stops at a line that is not taken, and
-/// one that goes on.
+/// A script that writes each line of its report by one or more commands, each in a process of its
+/// own, and does something where one fails.
+fn by_line(commands: &[&str], then: &str) -> String {
+    let each = |command: &&str| format!("({command}) 2>/dev/null || {then};");
+    let body: String = commands.iter().map(each).collect();
+    format!("{PROGRAM} totals 2>/dev/null | while IFS= read -r line; do {body} done; exit 0")
+}
+
+const LINE: &[&str] = &["printf '%s\\n' \"$line\""];
+const LINE_AND_FEED: &[&str] = &["printf %s \"$line\"", "echo"];
+
+/// In how many rooms something follows a write that failed, where a program goes on after it.
+fn rooms_with_a_gap(writes: &[&str]) -> usize {
+    let gap = |&room: &usize| {
+        let mut taken = String::new();
+        for write in writes {
+            if taken.len() + write.len() <= room {
+                taken.push_str(write);
+            }
+        }
+        !REPORT.starts_with(&taken)
+    };
+    (0..REPORT.len()).filter(gap).count()
+}
+
+#[test]
+fn a_program_that_stops_at_a_failed_write_passes() {
+    let through = |dd: &str| format!("{PROGRAM} totals 2>/dev/null | dd {dd} 2>/dev/null; exit 0");
+    let right = [
+        ("stops_at_lines", by_line(LINE, "break")),
+        ("stops_at_feeds", by_line(LINE_AND_FEED, "break")),
+        ("stops_at_bytes", through("bs=1")),
+        ("writes_at_once", through("bs=4M iflag=fullblock")),
+    ];
+    for (name, body) in right {
+        let output = compare(&["check", &script(name, &body), "1", "20"]);
+        assert_eq!(counts(&output), (20 + SHUT, 0), "{name}: {}", text(&output.stdout));
+    }
+}
+
 #[test]
 fn nothing_follows_a_failed_write() {
-    let lines = |then: &str| {
-        let each = format!("(printf '%s\\n' \"$line\") 2>/dev/null || {then}");
-        format!("{PROGRAM} totals 2>/dev/null | while IFS= read -r line; do {each}; done; exit 0")
-    };
-    let stops = compare(&["check", &script("stops", &lines("break")), "1", "20"]);
-    assert_eq!(counts(&stops), (20 + SHUT, 0), "{}", text(&stops.stdout));
-    let goes_on = compare(&["check", &script("goes_on", &lines(":")), "1", "20"]);
-    let told = text(&goes_on.stdout);
-    assert_eq!(counts(&goes_on), (20 + SHUT - 6, 6), "{told}");
-    assert!(told.contains("fails once, at line 4\n  after a write that failed: "), "{told}");
+    let lines: Vec<&str> = REPORT.split_inclusive('\n').collect();
+    let apart: Vec<&str> = REPORT.lines().flat_map(|line| [line, "\n"]).collect();
+    let wrong = [("goes_on", LINE, lines, 6), ("goes_on_at_feeds", LINE_AND_FEED, apart, 1)];
+    for (name, commands, writes, first) in wrong {
+        let output = compare(&["check", &script(name, &by_line(commands, ":")), "1", "20"]);
+        let (told, gaps) = (text(&output.stdout), rooms_with_a_gap(&writes));
+        assert!(gaps > 30, "{name}: {gaps}");
+        assert_eq!(counts(&output), (20 + SHUT - gaps, gaps), "{name}: {told}");
+        let fault = format!("fails once, after {first} bytes\n  after a write that failed: ");
+        assert!(told.contains(&fault), "{name}: {told}");
+    }
 }
 
 #[test]

@@ -12,7 +12,6 @@ use super::shut;
 use super::Case;
 use crate::program;
 use crate::spell;
-use crate::tape::Run;
 use crate::totals;
 
 /// A write that finds no room fails and does not wait. The number is Linux's.
@@ -20,34 +19,37 @@ const O_NONBLOCK: i32 = 0o4000;
 
 const PAGE: usize = 4096;
 
-/// Each line of a report in turn is the one that finds no room. After all but the last there is
-/// a shorter one, which would find it.
+/// Every room that the report does not fit in, so that, however a program cuts what it writes, each
+/// of its writes is once the first that finds too little room; a shorter one after it may find
+/// enough.
 pub fn cases(program: &str, patience: &Patience) -> Vec<Case> {
-    let points = Run { count: 6, point: i32::MIN };
-    let tape = spell::tape(&[2, 3], 1, vec![spell::repeat(points)]);
+    let points = [1, -2, 3, 4, 5, -6];
+    let tape = spell::tape(&[2, 3], 1, spell::singles(&points));
     let report = totals::printed(&tape);
-    let mut cases = Vec::new();
-    let mut end = 0;
-    for (number, line) in (1..).zip(report.split_inclusive(|&byte| byte == b'\n')) {
-        end += line.len();
-        let fault = match patience.run(|| run(program, &tape, &report, end - 1)) {
+    let case = |room| {
+        let fault = match patience.run(|| fault_with_room(program, &tape, &report, room)) {
             Ok(fault) => fault,
             Err(error) => Some(format!("  cannot run: {error}")),
         };
-        cases.push(Case { name: format!("output that fails once, at line {number}"), fault });
-    }
-    cases
+        Case { name: format!("output that fails once, after {room} bytes"), fault }
+    };
+    (0..report.len()).map(case).collect()
 }
 
-fn run(program: &str, tape: &[u8], report: &[u8], room: usize) -> io::Result<Option<String>> {
+fn fault_with_room(
+    program: &str,
+    tape: &[u8],
+    report: &[u8],
+    room: usize,
+) -> io::Result<Option<String>> {
     let mut pipe = Pipe::with_room(room)?;
     let output = pipe.writer.try_clone()?.into();
     let (errors, status) = program::run_into(output, &mut Command::new(program), tape)?;
-    let taken = pipe.taken()?;
-    Ok(shut::fault(&errors, status).or_else(|| follows(report, &taken)))
+    let taken = pipe.taken_from_program()?;
+    Ok(shut::fault(&errors, status).or_else(|| fault_unless_beginning(report, &taken)))
 }
 
-fn follows(report: &[u8], taken: &[u8]) -> Option<String> {
+fn fault_unless_beginning(report: &[u8], taken: &[u8]) -> Option<String> {
     let begins = report.starts_with(taken);
     (!begins).then(|| format!("  after a write that failed: {}", taken.escape_ascii()))
 }
@@ -64,26 +66,25 @@ impl Pipe {
     /// finds no other page, so that none of it is taken.
     fn with_room(room: usize) -> io::Result<Pipe> {
         let (reader, writer) = io::pipe()?;
-        let reader = reopened(&reader, File::options().read(true))?;
-        let writer = reopened(&writer, File::options().write(true))?;
+        let reader = reopened_never_to_wait(&reader, File::options().read(true))?;
+        let writer = reopened_never_to_wait(&writer, File::options().write(true))?;
         let mut pipe = Pipe { reader, writer, filled: 0 };
-        while written(pipe.writer.write(&[0; PAGE]))? > 0 {}
-        pipe.filled = pipe.drained()?.len() - room;
+        while none_for_waiting(pipe.writer.write(&[0; PAGE]))? > 0 {}
+        pipe.filled = pipe.read_all()?.len() - room;
         pipe.writer.write_all(&vec![0; pipe.filled])?;
         Ok(pipe)
     }
 
-    /// What the program wrote.
-    fn taken(&mut self) -> io::Result<Vec<u8>> {
-        let mut bytes = self.drained()?;
+    fn taken_from_program(&mut self) -> io::Result<Vec<u8>> {
+        let mut bytes = self.read_all()?;
         Ok(bytes.split_off(self.filled))
     }
 
-    fn drained(&mut self) -> io::Result<Vec<u8>> {
+    fn read_all(&mut self) -> io::Result<Vec<u8>> {
         let mut bytes = Vec::new();
         let mut page = [0; PAGE];
         loop {
-            match written(self.reader.read(&mut page))? {
+            match none_for_waiting(self.reader.read(&mut page))? {
                 0 => return Ok(bytes),
                 count => bytes.extend_from_slice(&page[..count]),
             }
@@ -91,16 +92,15 @@ impl Pipe {
     }
 }
 
-/// None where it would have had to wait.
-fn written(count: io::Result<usize>) -> io::Result<usize> {
+/// The bytes read or written: none where that would have had to wait.
+fn none_for_waiting(count: io::Result<usize>) -> io::Result<usize> {
     match count {
         Err(error) if error.kind() == ErrorKind::WouldBlock => Ok(0),
         count => count,
     }
 }
 
-/// An end of a pipe that never waits.
-fn reopened(end: &impl AsFd, options: &mut std::fs::OpenOptions) -> io::Result<File> {
+fn reopened_never_to_wait(end: &impl AsFd, options: &mut std::fs::OpenOptions) -> io::Result<File> {
     let path = format!("/proc/self/fd/{}", end.as_fd().as_raw_fd());
     options.custom_flags(O_NONBLOCK).open(path)
 }
