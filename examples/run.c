@@ -1,8 +1,8 @@
 /*
- * A whole campaign: two fault loops on three line sections, on a rack of two boards. Plans it,
- * lends memory, takes every step, gathers each choice when it is finished and prints its totals;
- * shows what the boards hold, where a board's own cells lie, and refusals that leave everything as
- * it was.
+ * A whole campaign: two fault loops on three line sections, on a rack of two boards. Plans it from
+ * its tape, lends memory, takes every step, gathers each choice when it is finished and prints its
+ * totals; shows what another plan costs, what the boards hold, where a board's own cells lie, and
+ * refusals that leave everything as it was.
  */
 #include <inttypes.h>
 #include <stdio.h>
@@ -10,9 +10,7 @@
 
 #include "campaign.h"
 
-#define LENGTH(a) (sizeof(a) / sizeof(a)[0])
-
-/* The same campaign as a tape: A 2, A 3, B 1, six points, E. */
+/* A 2, A 3, B 1, six points, E. */
 static const uint8_t tape[] = {
     0x41, 2, 0, 0x41, 3, 0, 0x42, 1,
     0x56, 1, 0, 0, 0, 0x56, 0xfe, 0xff, 0xff, 0xff, 0x56, 3, 0, 0, 0,
@@ -20,8 +18,10 @@ static const uint8_t tape[] = {
     0x45,
 };
 
-static void die(const char *what, uint8_t refusal)
+static void check(const char *what, uint8_t refusal)
 {
+    if (refusal == CAMPAIGN_OK)
+        return;
     fprintf(stderr, "%s: refused %u\n", what, refusal);
     exit(EXIT_FAILURE);
 }
@@ -37,16 +37,63 @@ static void *lent(size_t n, size_t size)
     return memory;
 }
 
+/* Plans what the tape holds; it has as many points as the plan. */
+static void plan_tape(struct campaign_tape *scan, struct campaign_rack_plan *plan,
+                      struct campaign_prices *prices)
+{
+    check("scan", campaign_tape_scan(tape, sizeof tape, scan));
+    if (scan->axes > CAMPAIGN_AXES)
+        check("plan", CAMPAIGN_BAD_AXES);
+    check("plan", campaign_plan_make(scan->lengths, scan->axes, scan->p, plan, prices));
+    if (scan->points != campaign_points(plan))
+        check("points", CAMPAIGN_BAD_ARRAY);
+}
+
+static void print_prices(const char *what, const struct campaign_prices *prices)
+{
+    printf("%s: moved %" PRIu64 ", added %" PRIu64 ", share %" PRIu64 "\n", what,
+           prices->moved, prices->added, prices->share);
+}
+
+/* The same campaign with its axes in the order of the tape, and cut along the first. */
+static void print_other(const struct campaign_rack_plan *plan)
+{
+    struct campaign_rack_plan other = *plan;
+    struct campaign_prices prices;
+
+    other.order[0] = 0;
+    other.order[1] = 1;
+    other.exponents[0] = 1;
+    other.exponents[1] = 0;
+    check("price", campaign_plan_price(&other, &prices));
+    print_prices("another plan", &prices);
+}
+
+/* The whole list, of which none is taken. */
+static void print_steps(const struct campaign_rack_plan *plan)
+{
+    static const char *const kinds[] = {"", "expand", "transfer", "finish", "done"};
+    struct campaign_rack_step step;
+    uint64_t steps;
+
+    check("step count", campaign_plan_step_count(plan, &steps));
+    printf("%" PRIu64 " steps:", steps);
+    for (uint64_t position = 0; position < steps; position++) {
+        check("step at", campaign_plan_step_at(plan, position, &step));
+        printf(" %s %" PRIu64 ",", kinds[step.kind], step.choice);
+    }
+    check("step at", campaign_plan_step_at(plan, steps, &step));
+    printf(" %s\n", kinds[step.kind]);
+}
+
 /* The totals of the choice that was finished last. */
-static void print_group(const struct campaign_plan *plan, const int64_t *work, size_t work_len,
-                        uint64_t position, uint64_t choice)
+static void print_group(const struct campaign_rack_plan *plan, const int64_t *work,
+                        size_t work_len, uint64_t position, uint64_t choice)
 {
     size_t cells = campaign_choice_cells(plan, choice);
-    int64_t *result = lent(cells, sizeof *result);
-    uint8_t refusal = campaign_plan_gather(plan, work, work_len, position, result, cells);
+    int64_t *result = (int64_t *)lent(cells, sizeof *result);
 
-    if (refusal != CAMPAIGN_OK)
-        die("gather", refusal);
+    check("gather", campaign_plan_gather(plan, work, work_len, position, result, cells));
     printf("group %" PRIu64, choice);
     for (size_t i = 0; i < cells; i++)
         printf(" %" PRId64, result[i]);
@@ -55,15 +102,13 @@ static void print_group(const struct campaign_plan *plan, const int64_t *work, s
 }
 
 /* Each board's own cells of that choice, in the work area itself. */
-static void print_parts(const struct campaign_plan *plan, const int64_t *work, size_t work_len,
-                        uint64_t position)
+static void print_parts(const struct campaign_rack_plan *plan, const int64_t *work,
+                        size_t work_len, uint64_t position)
 {
     for (uint32_t board = 0; board < campaign_boards(plan); board++) {
         struct campaign_part part;
-        uint8_t refusal = campaign_plan_view(plan, work, work_len, position, board, &part);
 
-        if (refusal != CAMPAIGN_OK)
-            die("view", refusal);
+        check("view", campaign_plan_view(plan, work, work_len, position, board, &part));
         printf("  board %" PRIu32 ":", board);
         for (uint64_t i = 0; i < part.cells; i++)
             printf(" %" PRId64, work[part.start + i]);
@@ -71,79 +116,74 @@ static void print_parts(const struct campaign_plan *plan, const int64_t *work, s
     }
 }
 
-static void print_held(const struct campaign_plan *plan, uint64_t position)
+static void print_held(const struct campaign_rack_plan *plan, uint64_t position)
 {
     printf("held at %" PRIu64 ":", position);
     for (uint32_t board = 0; board < campaign_boards(plan); board++) {
         uint64_t cells;
-        uint8_t refusal = campaign_plan_held(plan, position, board, &cells);
 
-        if (refusal != CAMPAIGN_OK)
-            die("held", refusal);
+        check("held", campaign_plan_held(plan, position, board, &cells));
         printf(" %" PRIu64, cells);
     }
     printf("\n");
 }
 
-int main(void)
+static void run(const struct campaign_rack_plan *plan, const int32_t *array, size_t points,
+                int64_t *work, size_t cells)
 {
-    static const uint32_t lengths[] = {2, 3};
-    struct campaign_plan plan;
-    struct campaign_prices prices;
-    struct campaign_tape scan;
-    struct campaign_step step;
-    uint64_t steps, position = 0;
-    uint8_t refusal;
+    struct campaign_rack_step step;
+    uint64_t position = 0;
 
-    /* Plan. */
-    refusal = campaign_plan_make(&plan, &prices, lengths, LENGTH(lengths), 1);
-    if (refusal != CAMPAIGN_OK)
-        die("plan", refusal);
-    refusal = campaign_plan_step_count(&plan, &steps);
-    if (refusal != CAMPAIGN_OK)
-        die("step count", refusal);
-    printf("plan: moved %" PRIu64 ", added %" PRIu64 ", share %" PRIu64 ", %" PRIu64 " steps\n",
-           prices.moved, prices.added, prices.share, steps);
-
-    /* Lend memory: the points, here from a tape, and the work area. */
-    refusal = campaign_tape_scan(tape, sizeof tape, &scan);
-    if (refusal != CAMPAIGN_OK)
-        die("scan", refusal);
-    size_t points = campaign_points(&plan), cells = campaign_work_cells(&plan, &prices);
-    int32_t *array = lent(points, sizeof *array);
-    int64_t *work = lent(cells, sizeof *work);
-    refusal = campaign_fill(tape, sizeof tape, array, points);
-    if (refusal != CAMPAIGN_OK)
-        die("fill", refusal);
-
-    /* Run. */
     for (;;) {
-        refusal = campaign_plan_step(&plan, array, points, work, cells, &position, &step);
-        if (refusal != CAMPAIGN_OK)
-            die("step", refusal);
+        check("step", campaign_plan_step(plan, array, points, work, cells, &position, &step));
         if (step.kind == CAMPAIGN_DONE)
             break;
         if (step.kind == CAMPAIGN_TRANSFER)
             printf("transfer of %" PRIu64 " from board %" PRIu64 " to %" PRIu64 "\n",
                    step.values, step.sender, step.receiver);
         if (step.kind == CAMPAIGN_EXPAND)
-            print_held(&plan, position);
+            print_held(plan, position);
         if (step.kind == CAMPAIGN_FINISH) {
-            print_group(&plan, work, cells, position, step.choice);
-            print_parts(&plan, work, cells, position);
+            print_group(plan, work, cells, position, step.choice);
+            print_parts(plan, work, cells, position);
         }
     }
     printf("done at %" PRIu64 "\n", position);
+}
+
+int main(void)
+{
+    struct campaign_rack_plan plan;
+    struct campaign_prices prices;
+    struct campaign_tape scan;
+    struct campaign_rack_step step;
+    uint64_t position = 2;
+    uint8_t refusal;
+
+    plan_tape(&scan, &plan, &prices);
+    print_prices("plan", &prices);
+    print_other(&plan);
+    print_steps(&plan);
+
+    /* Lend memory for the points and for the work, and run. */
+    size_t points = campaign_points(&plan), cells = campaign_work_cells(&plan, &prices);
+    int32_t *array = (int32_t *)lent(points, sizeof *array);
+    int64_t *work = (int64_t *)lent(cells, sizeof *work);
+    check("fill", campaign_fill(tape, sizeof tape, array, points));
+    run(&plan, array, points, work, cells);
 
     /* Refusals: a plan for too many boards, a step that is lent too few points. */
-    refusal = campaign_plan_make(&plan, &prices, lengths, LENGTH(lengths), 3);
+    refusal = campaign_plan_make(scan.lengths, scan.axes, 3, &plan, &prices);
     printf("refused %u, the plan is still for %" PRIu32 " boards\n", refusal,
            campaign_boards(&plan));
-    position = 2;
     refusal = campaign_plan_step(&plan, array, points - 1, work, cells, &position, &step);
     printf("refused %u, the position is still %" PRIu64 "\n", refusal, position);
 
     free(work);
     free(array);
+    if (fflush(stdout) != 0 || ferror(stdout)) {
+        perror("run");
+        return EXIT_FAILURE;
+    }
     return EXIT_SUCCESS;
 }

@@ -5,10 +5,14 @@
  * Link with libcampaign.a (pkg-config --cflags --libs campaign); campaign(3) is its manual page.
  *
  * The library allocates nothing, keeps no state between calls, calls nothing back, reads and
- * writes nothing but what it is lent, and may be called from any thread. Every function returns
- * CAMPAIGN_OK or the first refusal of the list below that is due, and on a refusal not one byte
- * of what it was lent has changed. That, and what each function writes, is proved for every input;
- * the inline functions below do nothing but hand structures over.
+ * writes nothing but what it is lent, and may be called from any thread. Each of its functions
+ * returns CAMPAIGN_OK or the first refusal of the list below that is due, and on a refusal not one
+ * byte of what it was lent has changed. That, and what each writes, is proved for every input.
+ *
+ * The inline functions below are C, and not proved. Those that return a uint8_t hand structures
+ * over to a function of the library, return what it returns, and write nothing where it refuses.
+ * campaign_boards, campaign_work_cells, campaign_choice_cells and campaign_points work out sizes
+ * and refuse nothing; each says where it gives 0.
  *
  * What a caller owes: each pointer is not null, also where its length is 0, is aligned for its
  * type and valid for its length, and what a function writes overlaps nothing else that the same
@@ -16,8 +20,9 @@
  *
  * A run:
  *
- *     campaign_plan_make(&plan, &prices, lengths, axes, p)    plan, once
- *     work = calloc(campaign_work_cells(&plan, &prices), sizeof *work)
+ *     campaign_plan_make(lengths, axes, p, &plan, &prices)    plan, once
+ *     cells = campaign_work_cells(&plan, &prices)
+ *     work = calloc(cells, sizeof *work)
  *     position = 0
  *     campaign_plan_step(&plan, points, n, work, cells, &position, &step)     until step.kind is
  *                                                                            CAMPAIGN_DONE
@@ -70,13 +75,28 @@ extern "C" {
  * An axis with exponent k is cut in 2^k portions, and the exponents sum to p. A caller may fill
  * one in by hand, and any lawful plan can be priced and run: set it to {0} first.
  */
-struct campaign_plan {
+struct campaign_rack_plan {
     uint8_t axes;
     uint8_t p;
     uint8_t order[CAMPAIGN_AXES];
     uint8_t exponents[CAMPAIGN_AXES];
     uint32_t lengths[CAMPAIGN_AXES];
 };
+
+/* The library reads and writes all but the lengths as one slice of bytes, in this order. */
+#if defined __cplusplus && __cplusplus >= 201103L
+#define CAMPAIGN_ASSERT(holds, says) static_assert(holds, says)
+#elif defined __STDC_VERSION__ && __STDC_VERSION__ >= 201112L
+#define CAMPAIGN_ASSERT(holds, says) _Static_assert(holds, says)
+#endif
+#ifdef CAMPAIGN_ASSERT
+CAMPAIGN_ASSERT(offsetof(struct campaign_rack_plan, axes) == 0, "axes stand first");
+CAMPAIGN_ASSERT(offsetof(struct campaign_rack_plan, p) == 1, "p stands after axes");
+CAMPAIGN_ASSERT(offsetof(struct campaign_rack_plan, order) == 2, "the order stands after p");
+CAMPAIGN_ASSERT(offsetof(struct campaign_rack_plan, exponents) == 2 + CAMPAIGN_AXES,
+                "the exponents stand after the order");
+#undef CAMPAIGN_ASSERT
+#endif
 
 /* What a plan costs. */
 struct campaign_prices {
@@ -93,7 +113,7 @@ enum campaign_kind {
 };
 
 /* What a step tells. A choice is the sum of 2^d over the axes d that it keeps. */
-struct campaign_step {
+struct campaign_rack_step {
     uint64_t kind;      /* an enum campaign_kind */
     uint64_t sender;    /* the two boards of a transfer, else 0 */
     uint64_t receiver;
@@ -109,10 +129,10 @@ struct campaign_part {
 
 /* What a tape holds. */
 struct campaign_tape {
-    uint64_t axes;                    /* can be over CAMPAIGN_AXES */
-    uint64_t p;
+    size_t axes;                      /* can be over CAMPAIGN_AXES: it has no plan then */
+    uint8_t p;
     uint64_t points;
-    uint64_t lengths[CAMPAIGN_AXES];  /* of the first axes */
+    uint32_t lengths[CAMPAIGN_AXES];  /* of the first axes; 0 past the last */
 };
 
 /* ---- the library's functions ------------------------------------------------------------- */
@@ -204,9 +224,9 @@ uint8_t campaign_fill(const uint8_t *tape, size_t tape_len, int32_t *array, size
  * fewer values or adds up fewer cells. `lengths` has the axes' lengths, in axis order. Refusals
  * 3 to 7.
  */
-static inline uint8_t campaign_plan_make(struct campaign_plan *plan,
-                                         struct campaign_prices *prices,
-                                         const uint32_t *lengths, size_t axes, uint8_t p)
+static inline uint8_t campaign_plan_make(const uint32_t *lengths, size_t axes, uint8_t p,
+                                         struct campaign_rack_plan *plan,
+                                         struct campaign_prices *prices)
 {
     uint64_t cells[CAMPAIGN_PRICES_CELLS];
     uint8_t refusal = campaign_make(lengths, axes, p, (uint8_t *)plan, CAMPAIGN_PLAN_BYTES,
@@ -221,7 +241,7 @@ static inline uint8_t campaign_plan_make(struct campaign_plan *plan,
 }
 
 /* What a plan costs. Refusals 3 to 6, 8, 9, as of every function that takes a plan. */
-static inline uint8_t campaign_plan_price(const struct campaign_plan *plan,
+static inline uint8_t campaign_plan_price(const struct campaign_rack_plan *plan,
                                           struct campaign_prices *prices)
 {
     uint64_t cells[CAMPAIGN_PRICES_CELLS];
@@ -236,45 +256,61 @@ static inline uint8_t campaign_plan_price(const struct campaign_plan *plan,
     return refusal;
 }
 
-/*
- * Sizes, of a plan that is not refused: the boards of its rack; the cells that its work area needs;
- * the cells of a choice, which is the product of the lengths of the axes that it keeps; the points.
- */
-static inline uint32_t campaign_boards(const struct campaign_plan *plan)
+/* The boards of a plan's rack: 2^p; 0 where p is over CAMPAIGN_HIGHEST_P. */
+static inline uint32_t campaign_boards(const struct campaign_rack_plan *plan)
 {
-    return (uint32_t)1 << plan->p;
+    return plan->p > CAMPAIGN_HIGHEST_P ? 0 : (uint32_t)1 << plan->p;
 }
 
-static inline size_t campaign_work_cells(const struct campaign_plan *plan,
+/*
+ * The cells of the work area that a plan of these prices needs: a share for each board; 0 where p
+ * is over CAMPAIGN_HIGHEST_P, or where a size_t cannot hold so many.
+ */
+static inline size_t campaign_work_cells(const struct campaign_rack_plan *plan,
                                          const struct campaign_prices *prices)
 {
+    if (plan->p > CAMPAIGN_HIGHEST_P || prices->share > SIZE_MAX >> plan->p)
+        return 0;
     return (size_t)prices->share << plan->p;
 }
 
-static inline size_t campaign_choice_cells(const struct campaign_plan *plan, uint64_t choice)
+/*
+ * The cells of a choice: the product of the lengths of the axes that it keeps, 1 for the grand
+ * total; 0 where a plan has no axes or more than CAMPAIGN_AXES, and where the product is 0 or over
+ * CAMPAIGN_POINTS. Bits of a choice past the last axis play no part.
+ */
+static inline size_t campaign_choice_cells(const struct campaign_rack_plan *plan, uint64_t choice)
 {
-    size_t cells = 1;
+    uint64_t cells = 1;
 
-    for (unsigned d = 0; d < plan->axes && d < CAMPAIGN_AXES; d++)
+    if (plan->axes == 0 || plan->axes > CAMPAIGN_AXES)
+        return 0;
+    for (unsigned d = 0; d < plan->axes; d++) {
         if (choice >> d & 1)
             cells *= plan->lengths[d];
-    return cells;
+        if (cells > CAMPAIGN_POINTS)
+            return 0;
+    }
+    return (size_t)cells;
 }
 
-static inline size_t campaign_points(const struct campaign_plan *plan)
+/* The points of a plan's campaign: the cells of the choice that keeps every axis. */
+static inline size_t campaign_points(const struct campaign_rack_plan *plan)
 {
     return campaign_choice_cells(plan, UINT64_MAX);
 }
 
 /* T: how many steps a plan has. */
-static inline uint8_t campaign_plan_step_count(const struct campaign_plan *plan, uint64_t *count)
+static inline uint8_t campaign_plan_step_count(const struct campaign_rack_plan *plan,
+                                               uint64_t *count)
 {
     return campaign_step_count((const uint8_t *)plan, CAMPAIGN_PLAN_BYTES, plan->lengths,
                                CAMPAIGN_AXES, count, 1);
 }
 
+/* For the functions below: what a step tells, out of its cells. */
 static inline void campaign_tell(const uint64_t cells[CAMPAIGN_STEP_CELLS],
-                                 struct campaign_step *step)
+                                 struct campaign_rack_step *step)
 {
     step->kind = cells[0];
     step->sender = cells[1];
@@ -284,8 +320,8 @@ static inline void campaign_tell(const uint64_t cells[CAMPAIGN_STEP_CELLS],
 }
 
 /* The step at a position, CAMPAIGN_DONE at T; nothing is taken. Also refusal 12. */
-static inline uint8_t campaign_plan_step_at(const struct campaign_plan *plan, uint64_t position,
-                                            struct campaign_step *step)
+static inline uint8_t campaign_plan_step_at(const struct campaign_rack_plan *plan,
+                                            uint64_t position, struct campaign_rack_step *step)
 {
     uint64_t cells[CAMPAIGN_STEP_CELLS];
     uint8_t refusal = campaign_step_at((const uint8_t *)plan, CAMPAIGN_PLAN_BYTES, plan->lengths,
@@ -300,7 +336,7 @@ static inline uint8_t campaign_plan_step_at(const struct campaign_plan *plan, ui
  * How many cells a board holds at a position: those of its choices that are formed and not yet
  * finished. Also refusal 12.
  */
-static inline uint8_t campaign_plan_held(const struct campaign_plan *plan, uint64_t position,
+static inline uint8_t campaign_plan_held(const struct campaign_rack_plan *plan, uint64_t position,
                                          uint32_t board, uint64_t *cells)
 {
     return campaign_held((const uint8_t *)plan, CAMPAIGN_PLAN_BYTES, plan->lengths, CAMPAIGN_AXES,
@@ -315,10 +351,10 @@ static inline uint8_t campaign_plan_held(const struct campaign_plan *plan, uint6
  * work      campaign_work_cells cells or more; what they hold before the first step plays no part
  * position  the steps taken so far: 0 before the first
  */
-static inline uint8_t campaign_plan_step(const struct campaign_plan *plan,
+static inline uint8_t campaign_plan_step(const struct campaign_rack_plan *plan,
                                          const int32_t *array, size_t array_len,
                                          int64_t *work, size_t work_len,
-                                         uint64_t *position, struct campaign_step *step)
+                                         uint64_t *position, struct campaign_rack_step *step)
 {
     uint64_t cells[CAMPAIGN_STEP_CELLS];
     uint8_t refusal = campaign_step((const uint8_t *)plan, CAMPAIGN_PLAN_BYTES, plan->lengths,
@@ -334,7 +370,7 @@ static inline uint8_t campaign_plan_step(const struct campaign_plan *plan,
  * Where a board's cells of the choice that the step before `position` finished stand in the work
  * area, row-major in plan order over the board's own portions. Also refusals 11, 12.
  */
-static inline uint8_t campaign_plan_view(const struct campaign_plan *plan,
+static inline uint8_t campaign_plan_view(const struct campaign_rack_plan *plan,
                                          const int64_t *work, size_t work_len,
                                          uint64_t position, uint32_t board,
                                          struct campaign_part *part)
@@ -355,7 +391,7 @@ static inline uint8_t campaign_plan_view(const struct campaign_plan *plan,
  * Copies the choice that the step before `position` finished, whole, from the boards' shares into
  * `result`, row-major in axis order; result_len is campaign_choice_cells. Also refusals 11, 12, 13.
  */
-static inline uint8_t campaign_plan_gather(const struct campaign_plan *plan,
+static inline uint8_t campaign_plan_gather(const struct campaign_rack_plan *plan,
                                            const int64_t *work, size_t work_len,
                                            uint64_t position, int64_t *result, size_t result_len)
 {
@@ -365,7 +401,7 @@ static inline uint8_t campaign_plan_gather(const struct campaign_plan *plan,
 
 /*
  * Judges a tape's form and tells what it holds. Whether such a campaign can be planned is for
- * campaign_plan_make to say. Refusals 1, 2.
+ * campaign_plan_make to say, where it has no more than CAMPAIGN_AXES axes. Refusals 1, 2.
  */
 static inline uint8_t campaign_tape_scan(const uint8_t *tape, size_t tape_len,
                                          struct campaign_tape *scan)
@@ -374,11 +410,11 @@ static inline uint8_t campaign_tape_scan(const uint8_t *tape, size_t tape_len,
     uint8_t refusal = campaign_scan(tape, tape_len, cells, CAMPAIGN_TAPE_CELLS);
 
     if (refusal == CAMPAIGN_OK) {
-        scan->axes = cells[0];
-        scan->p = cells[1];
+        scan->axes = (size_t)cells[0];
+        scan->p = (uint8_t)cells[1];
         scan->points = cells[2];
         for (unsigned d = 0; d < CAMPAIGN_AXES; d++)
-            scan->lengths[d] = cells[3 + d];
+            scan->lengths[d] = (uint32_t)cells[3 + d];
     }
     return refusal;
 }
