@@ -1,9 +1,12 @@
 ghost use mathlib.Core.Path.{_≡_};
-ghost use Prim.Native.Nat.{_^_, _<_, min};
+ghost use Prim.Native.Nat.{_*_, _^_, _≤_, _<_, min};
 ghost use lib.ListN.{take};
 ghost use lib.Dec.{eqb};
 ghost use Rattle.cube_spec.specs.Limits.{axisLimit};
-ghost use Rattle.cube_spec.specs.Choices.{keeps, fullMask, withoutMask, grandMask, cells, Countable};
+ghost use Rattle.cube_spec.specs.Choices.{keeps, fullMask, withoutMask, grandMask, cellCap, countedCells};
+
+// Where a count of cells is cut, far above that of accepted lengths. It is below 2^32, so that its product with any length fits 64 bits.
+pub const CELL_CAP: u64 = 4_294_967_295;
 
 // A choice: the set of kept axes, bit d of the mask for axis d.
 pub struct Choice {
@@ -41,6 +44,28 @@ fn cleared(mask: u8, d: u8) -> u8
         return mask - b;
     }
     mask
+}
+
+// A count of cells along one axis more, cut at the cap.
+fn capped(count: u64, length: u32) -> u64
+    requires { ⌜ count ≤ cellCap ⌝ }
+    ensures { λ r. ⌜ r ≡ min cellCap (count * length) ⌝ }
+{
+    let more = count * (length as u64);
+    if CELL_CAP < more {
+        return CELL_CAP;
+    }
+    more
+}
+
+// As many axes as there are slots for.
+fn slots_used(axes: u8) -> u8
+    ensures { λ r. ⌜ r ≡ min axes axisLimit ⌝ }
+{
+    if axes < 8 {
+        return axes;
+    }
+    8
 }
 
 impl Choice {
@@ -81,16 +106,17 @@ impl Choice {
         }
     }
 
-    // How many cells the choice has, over the first `axes` of the lengths.
+    // How many cells the choice has, over the first `axes` of the lengths, of which there are eight, cut at the cap.
     pub fn cells(self, lengths: [u32; 8], axes: u8) -> u64
-        requires { ⌜ Countable (take axes lengths) axes ⌝ }
-        ensures { λ r. ⌜ r ≡ cells (take axes lengths) (self .mask) ⌝ }
+        ensures { λ r. ⌜ r ≡ countedCells (take axes lengths) (self .mask) ⌝ }
     {
+        let n = slots_used(axes);
         let mut count: u64 = 1;
         let mut d: u8 = 0;
-        while d < axes {
+        while d < n {
             if self.keeps(d) {
-                count = count * (lengths[d as usize] as u64);
+                let more = capped(count, lengths[d as usize]);
+                count = more;
             }
             d += 1;
         }

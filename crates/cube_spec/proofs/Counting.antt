@@ -1,18 +1,19 @@
 -- Laws for counting the cells of a choice, axis by axis.
-use Prim.Native.Nat.{ℕ, zero, suc, _+_, _-_, _*_, _≤_, _<_}
+use Prim.Native.Nat.{ℕ, zero, suc, _+_, _*_, _≤_, _<_, min}
 use mathlib.Core.Path.{_≡_, sym, _∙_, refl, ap}
-use mathlib.Core.Bool.{Bool, true, false}
+use mathlib.Core.Bool.{true, false}
 use mathlib.Core.List.{List}
-use native.Mathlib.Nat.{mul-assoc, mul-one, one-mul, le-trans, mul-le-mul-left}
+use native.Mathlib.Nat.{mul-zero, mul-one, zero-add, le-trans, mul-le-mul-right}
 use native.Mathlib.Omega.{arith}
+use native.Mathlib.Decide.{decLe}
 use lib.ListN.{length}
 use lib.Pow.{pow-pos}
 use Rattle.cube_spec.specs.Limits.{pointLimit}
 use Rattle.cube_spec.specs.Boxes.{product}
-use Rattle.cube_spec.specs.Choices.{keeps, fullMask, grandMask, lengthOf, keptLength, cells, points, Countable}
+use Rattle.cube_spec.specs.Choices.{keeps, fullMask, grandMask, lengthOf, keptLength, cells, cellCap, countedCells, points, Countable}
 use Rattle.cube_spec.proofs.Sums.{by}
 use Rattle.cube_spec.proofs.Boxing.{product-cong}
-use Rattle.cube_spec.proofs.Products.{product-pos, product-le, product-ones, factor-le, product-next, product-none}
+use Rattle.cube_spec.proofs.Products.{product-le, product-ones, product-last}
 use Rattle.cube_spec.proofs.Digits.{keeps-past, keeps-full}
 
 pub kept-length : (ds : List ℕ) (mask d : ℕ) → keeps mask d ≡ true → keptLength ds mask d ≡ lengthOf ds d
@@ -36,16 +37,6 @@ kept-pos ds mask d h =
     (λ t. let q = summed-length ds mask d t in omega arith)
 
 module _ (ds : List ℕ) (n mask : ℕ) (ok : Countable ds n) where
-  abbrev pub left : ℕ → ℕ
-  left d = product (keptLength ds mask) (n - d) d
-
-  left-pos : (d : ℕ) → 0 < left d
-  left-pos d = product-pos (keptLength ds mask) (n - d) d (λ i l r. kept-pos ds mask i (ok .some i (omega arith)))
-
-  pub count-start : 1 * left 0 ≡ cells ds mask
-  unfolding cells
-  count-start = let q = ok .each in let z : n - 0 ≡ n = omega arith in rw (one-mul, z, ← q)
-
   pub cells-le : cells ds mask ≤ points ds
   unfolding cells points
   cells-le =
@@ -55,32 +46,52 @@ module _ (ds : List ℕ) (n mask : ℕ) (ok : Countable ds n) where
   pub cells-small : cells ds mask ≤ pointLimit
   cells-small = le-trans cells-le (ok .small)
 
-  module _ (d count : ℕ) (h : d < n) (e : count * left d ≡ cells ds mask) where
-    pub count-kept : keeps mask d ≡ true → count * lengthOf ds d * left (d + 1) ≡ cells ds mask
-    count-kept t = rw (product-next (keptLength ds mask) n d h, kept-length ds mask d t, ← mul-assoc) at e
+  -- accepted lengths are counted exactly
+  pub counted-is : countedCells ds mask ≡ cells ds mask
+  unfolding countedCells
+  counted-is = let s = cells-small in omega arith
 
-    pub count-summed : keeps mask d ≡ false → count * left (d + 1) ≡ cells ds mask
-    count-summed t = rw (product-next (keptLength ds mask) n d h, summed-length ds mask d t, one-mul) at e
+-- ---- counting axis by axis, for any lengths
 
-    -- so far the count is at most the cells
-    pub count-fits : keeps mask d ≡ true → count * lengthOf ds d ≤ pointLimit
-    count-fits t =
-        let q = count-kept t in
-        let s = cells-small in
-        let p : count * lengthOf ds d * 1 ≤ count * lengthOf ds d * left (d + 1) = mul-le-mul-left (count * lengthOf ds d) (left-pos (d + 1)) in
-        let r = mul-one (count * lengthOf ds d) in
-        omega arith
+-- a product that is cut on the way is cut where the whole one is
+cut-times : (a b : ℕ) → min cellCap (min cellCap a * b) ≡ min cellCap (a * b)
+cut-times a zero = ap (min cellCap) (mul-zero (min cellCap a) ∙ sym (mul-zero a))
+cut-times a (suc b) = go (decLe a cellCap)
+  where
+    go : Dec (a ≤ cellCap) → min cellCap (min cellCap a * suc b) ≡ min cellCap (a * suc b)
+    go (yes h) = let e : min cellCap a ≡ a = omega arith in rw e refl
+    go (no h) =
+        let e : min cellCap a ≡ cellCap = omega (arith, h) in
+        let l : cellCap ≤ a = omega (arith, h) in
+        let m : cellCap * suc b ≤ a * suc b = mul-le-mul-right (suc b) l in
+        rw e (omega arith)
 
-  pub count-end : (d count : ℕ) → n ≤ d → count * left d ≡ cells ds mask → count ≡ cells ds mask
-  count-end d count h e = rw (product-none (keptLength ds mask) n d h, mul-one) at e
+module _ (ds : List ℕ) (mask : ℕ) where
+  -- what is counted along the first d axes
+  abbrev pub counted : ℕ → ℕ
+  counted d = min cellCap (product (keptLength ds mask) d 0)
 
-  -- no length passes the points
-  pub length-small : (d : ℕ) → d < n → lengthOf ds d ≤ pointLimit
-  unfolding points
-  length-small d h =
-      let q = ok .each in
-      let s = ok .small in
-      le-trans (factor-le (lengthOf ds) (length ds) 0 d (λ i l r. ok .some i (omega arith)) (omega arith) (omega arith)) s
+  pub counted-start : 1 ≡ counted 0
+  unfolding product
+  counted-start = refl
+
+  next-axis : (d : ℕ) → product (keptLength ds mask) (d + 1) 0 ≡ product (keptLength ds mask) d 0 * keptLength ds mask d
+  next-axis d = product-last (keptLength ds mask) d 0 ∙ ap (λ i. product (keptLength ds mask) d 0 * keptLength ds mask i) (zero-add d)
+
+  module _ (d count : ℕ) (e : count ≡ counted d) where
+    pub counted-kept : keeps mask d ≡ true → min cellCap (count * lengthOf ds d) ≡ counted (d + 1)
+    counted-kept t =
+        let k = kept-length ds mask d t in
+        rw (e, next-axis d, k) (cut-times (product (keptLength ds mask) d 0) (lengthOf ds d))
+
+    pub counted-summed : keeps mask d ≡ false → count ≡ counted (d + 1)
+    counted-summed t =
+        let k = summed-length ds mask d t in
+        rw (next-axis d, k, mul-one) e
+
+    pub counted-end : d ≡ length ds → count ≡ countedCells ds mask
+    unfolding countedCells cells
+    counted-end z = rw (← z) e
 
 -- "The grand total, which keeps no axis, has .. one cell."
 pub grand-cell : (ds : List ℕ) → cells ds grandMask ≡ 1

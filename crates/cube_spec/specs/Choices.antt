@@ -1,5 +1,5 @@
 -- Choices, their cells, and the total of a cell, over axes by number. `ds` are the lengths.
-use Prim.Native.Nat.{ℕ, zero, suc, _+_, _-_, _/_, _%_, _^_, _≤_, _<_}
+use Prim.Native.Nat.{ℕ, zero, suc, _+_, _-_, _/_, _%_, _^_, _≤_, _<_, min}
 use mathlib.Core.Path.{_≡_}
 use mathlib.Core.Bool.{Bool, true, _&&_, _||_, not}
 use mathlib.Core.List.{List}
@@ -42,6 +42,13 @@ cells ds mask = product (keptLength ds mask) (length ds) 0
 
 unfoldable pub points : List ℕ → ℕ
 points ds = product (lengthOf ds) (length ds) 0
+
+-- the cells of a choice as code counts them for lengths that nobody has judged: cut at a cap, whose product with any 32-bit length fits 64 bits
+abbrev pub cellCap : ℕ
+cellCap = 4294967295
+
+unfoldable pub countedCells : List ℕ → ℕ → ℕ
+countedCells ds mask = min cellCap (cells ds mask)
 
 -- "Arrays are row-major in axis order": the position of point q on axis d, and that of cell c of a choice
 unfoldable pub pointPosition : List ℕ → ℕ → ℕ → ℕ

@@ -36,7 +36,7 @@ use Rattle.run_spec.specs.Memory.{read}
 use Rattle.run_spec.specs.Gather.{gathered}
 use Rattle.run_spec.specs.Entries.{workCells, smallArea, noFinish, wrongResult, gatherChecks, gatherRefusal, gatherOf, gatherOr, gathering}
 use Rattle.run_spec.specs.Copies.{cellStride, oneBoard, leadsTo, Copying}
-use Rattle.run_spec.proofs.Refusing.{area-boards}
+use Rattle.run_spec.proofs.Refusing.{area-boards, counted-plan}
 use Rattle.run_spec.proofs.Totals.{keeps-order}
 use Rattle.run_spec.proofs.Shown.{cells-room}
 use Rattle.run_spec.proofs.Strided.{stride-small}
@@ -208,8 +208,6 @@ module _ (q : Plan) (work : List ℤ) (at : ℕ) (old : List ℤ) where
     gathered-some Y e = sym (delivered ∙ ap (λ o. gatherOf (listsOf q) o work old) e)
 
 -- the count of a choice's cells by its slots
-pub cells-told : (q : Plan) → Accepted q → (mask : ℕ) → Choices.cells (take (q .axes) (q .lengths)) mask ≡ Choices.cells (listsOf q .lengths) (maskOf (planGrid q) (summedIn q mask))
-cells-told q ok mask = ap (λ ds. Choices.cells ds mask) slots ∙ cells-same q ok mask
-  where
-    slots : take (q .axes) (q .lengths) ≡ listsOf q .lengths
-    slots = unfold listsOf in refl
+pub cells-told : (q : Plan) → Accepted q → (mask : ℕ)
+    → Choices.countedCells (take (q .axes) (q .lengths)) mask ≡ Choices.cells (listsOf q .lengths) (maskOf (planGrid q) (summedIn q mask))
+cells-told q ok mask = counted-plan q ok mask ∙ cells-same q ok mask

@@ -10,10 +10,10 @@ use lib.Dec.{eqb, ltb}
 use lib.ListN.{length, take}
 use lib.Pow.{pow-mono}
 use Rattle.cube_spec.specs.Limits.{axisLimit, powerLimit, pointLimit}
-use Rattle.cube_spec.specs.Choices.{points, cells, fullMask, Countable}
+use Rattle.cube_spec.specs.Choices.{points, cells, countedCells, fullMask, Countable}
 use Rattle.cube_spec.specs.Checks.{Check, check, first}
 use Rattle.cube_spec.specs.Tree as Tree
-use Rattle.cube_spec.proofs.Counting.{full-cells}
+use Rattle.cube_spec.proofs.Counting.{counted-is, full-cells}
 use Rattle.plan_spec.specs.Plans.{listsOf, boardCount, shareSize, stepCount}
 use Rattle.plan_spec.specs.Refusals.{planChecks, planRefusal}
 use Rattle.plan_spec.specs.declared.types.Plan.{Plan}
@@ -32,12 +32,15 @@ pub countable : (q : Plan) → Accepted q → Countable (take (q .axes) (q .leng
 unfolding listsOf
 countable q ok = let l = ok .lengths in let e = ok .axes in record { few = few-axes ok; each = e; some = λ d h. l .some d (omega arith); small = l .small }
 
-pub points-plan : (q : Plan) → Accepted q → cells (take (q .axes) (q .lengths)) (fullMask (min (q .axes) axisLimit)) ≡ points (listsOf q .lengths)
-unfolding listsOf
+-- the cells of an accepted plan are counted exactly
+pub counted-plan : (q : Plan) → Accepted q → (mask : ℕ) → countedCells (take (q .axes) (q .lengths)) mask ≡ cells (listsOf q .lengths) mask
+counted-plan q ok mask = counted-is (take (q .axes) (q .lengths)) (q .axes) mask (countable q ok) ∙ (unfold listsOf in refl)
+
+pub points-plan : (q : Plan) → Accepted q → countedCells (take (q .axes) (q .lengths)) (fullMask (min (q .axes) axisLimit)) ≡ points (listsOf q .lengths)
 points-plan q ok =
     let f = few-axes ok in
-    let m : min (q .axes) axisLimit ≡ length (take (q .axes) (q .lengths)) = (let e = ok .axes in omega arith) in
-    ap (λ n. cells (take (q .axes) (q .lengths)) (fullMask n)) m ∙ full-cells (take (q .axes) (q .lengths))
+    let m : min (q .axes) axisLimit ≡ length (listsOf q .lengths) = (let e = ok .axes in omega arith) in
+    counted-plan q ok (fullMask (min (q .axes) axisLimit)) ∙ ap (λ n. cells (listsOf q .lengths) (fullMask n)) m ∙ full-cells (listsOf q .lengths)
 
 pub area-plan : (q : Plan) → boardCount (listsOf q) * share (planGrid q) ≡ workCells (listsOf q)
 unfolding workCells share gridOf shareSize

@@ -1,6 +1,6 @@
 use Rattle.plan_spec.proofs.Accepting.{passed-accepted}
 use mathlib.Core.Path.{_∙_}
-use Rattle.run_spec.proofs.Refusing.{countable, points-plan}
+use Rattle.run_spec.proofs.Refusing.{points-plan}
 use borrow.Author.Needs.{needs}
 use Rattle.run_check.proofs.points_of.Statement.{statement}
 use Rattle.run_check.proofs.points_of.Tie as tie
@@ -11,7 +11,7 @@ full-requires c κs = search needs
 
 -- src/lib.rt:22:5
 cells-requires : tie.Need-cells-requires
-cells-requires c κs = let s = c .before .before in let gd = s .good .0 .1 .1 .1 .1 in let ok = passed-accepted (s .args .plan) (gd .0 .1 .0 .1) (gd .1 .0 .1 .0 .1) (gd .1 .1 .0 .1 .0 .1) (s .pre) in countable (s .args .plan) ok
+cells-requires c κs = tt
 
 -- src/lib.rt:16:1
 returns : tie.Need-returns

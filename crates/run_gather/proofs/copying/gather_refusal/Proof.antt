@@ -5,7 +5,6 @@ use mathlib.Core.Path.{_≡_, sym, ap, _∙_}
 use Rattle.rack_spec.specs.Answers.{told}
 use Rattle.rack_spec.specs.Finding.{planGrid, summedIn}
 use Rattle.rack_spec.proofs.Tallied.{lawful}
-use Rattle.run_spec.proofs.Refusing.{countable}
 use Rattle.run_spec.proofs.Shown.{finished-is, other-none}
 use Rattle.run_spec.proofs.Gathers.{gather-due, gather-area, gather-past, gather-unfinished, gather-wrong, gather-passed, cells-told}
 use borrow.Author.Needs.{needs}
@@ -46,7 +45,7 @@ enum-known-choice c = search needs
 
 -- src/copying.rt:93:26
 cells-requires : tie.Need-cells-requires
-cells-requires c κs = let s = c .before .before .before .before .before .before .before .before .before .before .before in let z = sym (c .before .before .before .before .before .before .before .before .before .before .plan-refusal .ensures) ∙ c .before .before .before .before .before .before .before .before .before .if1 .left in let gd = s .good .0 .1 .1 .1 .1 in let ok = passed-accepted (s .args .plan) (gd .0 .1 .0 .1) (gd .1 .0 .1 .0 .1) (gd .1 .1 .0 .1 .0 .1) (z) in let law = lawful (s .args .plan) ok in countable (s .args .plan) ok
+cells-requires c κs = tt
 
 -- src/copying.rt:94:17
 returns-4 : tie.Need-returns-4

@@ -1,21 +1,12 @@
 use Rattle.plan_spec.proofs.Accepting.{passed-accepted}
-use Rattle.run_spec.proofs.Refusing.{countable}
-use Rattle.totals_group.proofs.Counted.{count-is, count-fits, part-is, line-fits}
+use Rattle.totals_group.proofs.Counted.{count-fits, part-is, line-fits}
 use borrow.Author.Needs.{needs}
 use Rattle.totals_group.proofs.groups.put_finished.Statement.{statement}
 use Rattle.totals_group.proofs.groups.put_finished.Tie as tie
-use Rattle.totals_group.proofs.groups.put_finished.Reads as reads
-use Rattle.totals_group.proofs.groups.put_finished.Lts as lts
-use Rattle.cube_choice.proofs.types.Choice.cells.Reads as cells-reads
-use Rattle.totals_group.proofs.groups.put_gathered.Reads as put-gathered-reads
 
 -- src/groups.rt:50:13
 cells-requires : tie.Need-cells-requires
-cells-requires c κs =
-    let s = c .before .before in
-    let gd = s .good .0 .1 .1 .1 .1 in
-    let ok = passed-accepted (s .args .plan) (gd .0 .1 .0 .1) (gd .1 .0 .1 .0 .1) (gd .1 .1 .0 .1 .0 .1) (s .pre .0) in
-    countable (s .args .plan) ok
+cells-requires c κs = tt
 
 -- src/groups.rt:51:48
 sub-put-gathered : tie.Need-sub-put-gathered
