@@ -1,7 +1,7 @@
 -- Laws of lists in slots: zeros stand past the last element.
-use Prim.Native.Nat.{ℕ, zero, suc, _+_, _-_, _≤_, _<_}
-use mathlib.Core.Path.{_≡_, sym, _∙_, refl, ap}
-use mathlib.Core.List.{List, [], _∷_, _++_}
+use Prim.Native.Nat.{ℕ, _+_, _-_, _≤_, _<_}
+use mathlib.Core.Path.{_≡_, sym, _∙_, ap}
+use mathlib.Core.List.{List, _++_}
 use native.Mathlib.Nat.{zero-add}
 use native.Mathlib.Omega.{arith}
 use native.Mathlib.Decide.{decLt}
@@ -39,6 +39,20 @@ table-or-zero n f j h = List·getD-eq-default (tableFrom n 0 f) 0 (let q = table
 
 pub table-here : (n : ℕ) (f : ℕ → ℕ) (j : ℕ) → j < n → getD (table n f) j 0 ≡ f j
 table-here n f j h = table-at n 0 f j 0 h ∙ ap f (zero-add j)
+
+-- a table in slots: eight of them, each that of the table where it has one
+pub table-slots : (n : ℕ) (f : ℕ → ℕ) (r : List ℕ) → n ≤ axisLimit → r ≡ padded (table n f) → (length r ≡ axisLimit) × ((d : ℕ) → d < n → getD r d 0 ≡ f d)
+table-slots n f r few e =
+    (ap length e ∙ padded-length (table n f), λ d h. ap (λ l. getD l d 0) e ∙ padded-at (table n f) d (omega arith) ∙ table-here n f d h)
+
+-- and back: zeros from n on
+pub slots-table : (n : ℕ) (f : ℕ → ℕ) (r : List ℕ) → length r ≡ axisLimit
+    → ((d : ℕ) → d < n → getD r d 0 ≡ f d) → ((d : ℕ) → n ≤ d → getD r d 0 ≡ 0) → r ≡ padded (table n f)
+slots-table n f r e here past = padded-of (table n f) r e (λ j k. go j (decLt j n))
+  where
+    go : (j : ℕ) → Dec (j < n) → getD r j 0 ≡ getD (table n f) j 0
+    go j (yes q) = here j q ∙ sym (table-here n f j q)
+    go j (no q) = past j (omega (arith, q)) ∙ sym (table-or-zero n f j (omega (arith, q)))
 
 -- one slot more is filled
 pub padded-next : (i : ℕ) (f : ℕ → ℕ) → i < axisLimit → set (padded (table i f)) i (f i) ≡ padded (table (i + 1) f)

@@ -2,8 +2,8 @@
 ghost use mathlib.Core.Path.{_≡_};
 ghost use Prim.Native.Nat.{ℕ, _+_, _*_, _^_, _≤_, _<_};
 ghost use lib.ListN.{getD};
-ghost use Rattle.cube_spec.specs.Limits.{axisLimit, powerLimit, pointLimit};
-ghost use Rattle.cube_spec.specs.Boxes.{pick};
+ghost use Rattle.cube_spec.specs.Limits.{axisLimit, powerLimit, pointLimit, padded};
+ghost use Rattle.cube_spec.specs.Boxes.{pick, table};
 ghost use Rattle.cube_spec.specs.Portions.{ceiling};
 ghost use Rattle.cube_spec.specs.Tree.{regionStart};
 ghost use Rattle.plan_spec.specs.Plans.{mostAt, listsOf};
@@ -60,7 +60,7 @@ pub fn regions_to(lengths: [u32; 8], exponents: [u8; 8], n: usize, i: usize) -> 
 // Exponents in plan order.
 pub fn exponents_along(exponents: [u8; 8], order: [u8; 8], n: usize) -> [u8; 8]
     requires { ⌜ (n ≤ axisLimit) × ((d : ℕ) → d < n → getD order d 0 < axisLimit) ⌝ }
-    ensures { λ r. ⌜ ((d : ℕ) → d < n → getD r d 0 ≡ getD exponents (getD order d 0) 0) ⌝ }
+    ensures { λ r. ⌜ r ≡ padded (table n (λ d. getD exponents (getD order d 0) 0)) ⌝ }
 {
     let mut along = [0u8; 8];
     let mut d: usize = 0;

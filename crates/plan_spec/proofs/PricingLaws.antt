@@ -7,11 +7,11 @@ use native.Mathlib.Numerals.{add-one}
 use native.Mathlib.Omega.{arith}
 use borrow.Author.Tests.{eqb-true, eqb-false}
 use lib.Dec.{eqb}
-use lib.ListN.{length, getD, take, set}
+use lib.ListN.{getD, take}
 use lib.Pow.{pow-pos, pow-mono}
-use lib.Seq.{getD-take, getD-set-same, getD-set-other}
-use Rattle.cube_spec.specs.Limits.{pointLimit, powerLimit, padded}
-use Rattle.cube_spec.specs.Boxes.{pick, sumN, product, tableFrom, table}
+use lib.Seq.{getD-take}
+use Rattle.cube_spec.specs.Limits.{pointLimit, powerLimit}
+use Rattle.cube_spec.specs.Boxes.{pick, sumN, product, tableFrom}
 use Rattle.cube_spec.specs.Choices.{points, lengthOf}
 use Rattle.cube_spec.specs.Portions.{ceiling}
 use Rattle.cube_spec.specs.Tree as Tree
@@ -19,7 +19,6 @@ use Rattle.cube_spec.specs.Tree.{has, kept, choiceCells, sent, regionSize, regi
 use Rattle.cube_spec.specs.Ways.{sumList}
 use Rattle.cube_spec.specs.Checks.{gives, refuses, answered}
 use Rattle.cube_spec.proofs.Sums.{by}
-use Rattle.cube_spec.proofs.Slots.{padded-at, table-here}
 use Rattle.cube_spec.proofs.Boxing.{product-cong}
 use Rattle.cube_spec.proofs.Naturals.{sumN-cong}
 use Rattle.cube_spec.proofs.Products.{product-pos, product-le, factor-le, product-next, product-none}
@@ -51,14 +50,6 @@ sent-small k h = let q = power-small k h in omega arith
 
 pub sent-fits : (c r : ℕ) → c ≤ pointLimit → r < 1024 → c * r < 18446744073709551616
 sent-fits c r h k = let q = mul-le-mul {n₁ = c} {m₁ = r} {n₂ = pointLimit} {m₂ = 1024} h (omega arith) in omega arith
-
--- ---- filling an array
-
-pub filled-next : (f : ℕ → ℕ) (a : List ℕ) (d : ℕ) → d < length a → ((j : ℕ) → j < d → getD a j 0 ≡ f j) → (j : ℕ) → j < d + 1 → getD (set a d (f d)) j 0 ≡ f j
-filled-next f a d h before j l =
-    by (eqb j d)
-    (λ t. rw (eqb-true j d t) (getD-set-same a d (f d) 0 h))
-    (λ t. let ne = eqb-false j d t in getD-set-other a d j (f d) 0 ne ∙ before j (omega (arith, ne)))
 
 -- ---- a turn of the recursion
 
@@ -294,10 +285,6 @@ unfolding regionStart regionSize choiceCells kept
 starts-cong n k most most′ same = sumN-cong k (λ i h. product-cong n 0 (λ d a b. ap (λ x. pick (has (i ∷ []) d) 1 x) (same d (omega arith))))
 
 -- ---- a plan along its order
-
--- a table in slots, as the code fills it
-pub table-slot : (n : ℕ) (f : ℕ → ℕ) (r : List ℕ) → n ≤ 8 → r ≡ padded (table n f) → (d : ℕ) → d < n → getD r d 0 ≡ f d
-table-slot n f r few e d h = ap (λ l. getD l d 0) e ∙ padded-at (table n f) d (omega arith) ∙ table-here n f d h
 
 sum-member : (l : List ℕ) (d : ℕ) → getD l d 0 ≤ sumList l
 unfolding sumList

@@ -7,7 +7,11 @@ use native.Mathlib.Omega.{arith}
 use borrow.Author.Tests.{eqb-true, eqb-false}
 use lib.Dec.{eqb}
 use lib.ListN.{length, getD, set}
-use lib.Seq.{getD-set-same, getD-set-other}
+use lib.Seq.{ext-getD, getD-set-same, getD-set-other}
+use Rattle.cube_spec.specs.Limits.{axisLimit}
+use Rattle.cube_spec.specs.Boxes.{table}
+use Rattle.cube_spec.proofs.Slots.{table-here}
+use Rattle.cube_spec.proofs.Tables.{table-length}
 use Rattle.cube_spec.proofs.Sums.{by}
 use Rattle.plan_spec.specs.Accepted.{Accepted}
 use Rattle.plan_spec.specs.declared.types.Plan.{Plan}
@@ -20,8 +24,8 @@ use Rattle.rack_spec.proofs.Tallied.{span-end, span-next, sendings-end, sending
 
 -- the places from d on are filled
 pub record Tallying (q : Plan) (S T : List ℕ) (d : ℕ) : Type 0 where
-  pub spans : (i : ℕ) → d ≤ i → i ≤ q .axes → getD S i 0 ≡ span (planGrid q) (q .axes - i) i
-  pub sents : (i : ℕ) → d ≤ i → i ≤ q .axes → getD T i 0 ≡ sendings (planGrid q) (q .axes - i) i
+  pub spans : (i : ℕ) → d ≤ i → i ≤ axisLimit → getD S i 0 ≡ span (planGrid q) (q .axes - i) i
+  pub sents : (i : ℕ) → d ≤ i → i ≤ axisLimit → getD T i 0 ≡ sendings (planGrid q) (q .axes - i) i
 
 ones : (i : ℕ) → i ≤ 8 → _≡_ {A = ℕ} (getD (1 ∷ 1 ∷ 1 ∷ 1 ∷ 1 ∷ 1 ∷ 1 ∷ 1 ∷ 1 ∷ []) i 0) 1
 ones zero h = refl
@@ -47,6 +51,14 @@ zeros (suc (suc (suc (suc (suc (suc (suc zero))))))) h = refl
 zeros (suc (suc (suc (suc (suc (suc (suc (suc zero)))))))) h = refl
 zeros (suc (suc (suc (suc (suc (suc (suc (suc (suc i))))))))) h = absurd (omega arith)
 
+-- as many places as a walk may begin at: one for each axis, and the end
+abbrev places : ℕ
+places = axisLimit + 1
+
+filled-places : (f : ℕ → ℕ) (r : List ℕ) → length r ≡ places → ((i : ℕ) → i ≤ axisLimit → getD r i 0 ≡ f i) → r ≡ table places f
+filled-places f r n h =
+    ext-getD 0 r (table places f) (n ∙ sym (table-length places 0 f)) (λ i l. h i (omega arith) ∙ sym (table-here places f i (omega arith)))
+
 pub turn-fits : (s k p : ℕ) → s ≤ 262144 → k ≤ 1024 → p ≤ 1024 → s * (p + 1) + k * (p - 1) < 4294967296
 turn-fits s k p a b c =
     let x = mul-le-mul {n₁ = s} {m₁ = p + 1} {n₂ = 262144} {m₂ = 1025} a (omega arith) in
@@ -56,18 +68,20 @@ turn-fits s k p a b c =
 module _ (q : Plan) (ok : Accepted q) where
   pub tallying-start : Tallying q (1 ∷ 1 ∷ 1 ∷ 1 ∷ 1 ∷ 1 ∷ 1 ∷ 1 ∷ 1 ∷ []) (0 ∷ 0 ∷ 0 ∷ 0 ∷ 0 ∷ 0 ∷ 0 ∷ 0 ∷ 0 ∷ []) (q .axes)
   tallying-start =
-      let f = few-axes ok in
       record {
-        spans = λ i l h. ones i (omega arith) ∙ sym (span-end (planGrid q) (q .axes) i l);
-        sents = λ i l h. zeros i (omega arith) ∙ sym (sendings-end (planGrid q) (q .axes) i l);
+        spans = λ i l h. ones i h ∙ sym (span-end (planGrid q) (q .axes) i l);
+        sents = λ i l h. zeros i h ∙ sym (sendings-end (planGrid q) (q .axes) i l);
       }
 
   module _ (S T : List ℕ) (d : ℕ) (l : d ≤ q .axes) (t : Tallying q S T d) where
+    slot : d ≤ axisLimit
+    slot = let f = few-axes ok in omega arith
+
     pub span-here : getD S d 0 ≤ 1024
-    span-here = rw (t .spans d (omega arith) l) (span-small q ok d l)
+    span-here = rw (t .spans d (omega arith) slot) (span-small q ok d l)
 
     pub sent-here : getD T d 0 ≤ 262144
-    sent-here = rw (t .sents d (omega arith) l) (sendings-small q ok d l)
+    sent-here = rw (t .sents d (omega arith) slot) (sendings-small q ok d l)
 
     module _ (h : 0 < d) (m : length S ≡ 9) (n : length T ≡ 9) where
       abbrev e : ℕ
@@ -77,10 +91,10 @@ module _ (q : Plan) (ok : Accepted q) where
       next = omega arith
 
       ways : getD S d 0 ≡ span (planGrid q) (q .axes - (e + 1)) (e + 1)
-      ways = rw next (t .spans d (omega arith) l)
+      ways = rw next (t .spans d (omega arith) slot)
 
       below : getD T d 0 ≡ sendings (planGrid q) (q .axes - (e + 1)) (e + 1)
-      below = rw next (t .sents d (omega arith) l)
+      below = rw next (t .sents d (omega arith) slot)
 
       span-turn : planGrid q .parts e * getD S d 0 ≡ span (planGrid q) (q .axes - e) e
       span-turn = ap (λ x. planGrid q .parts e * x) ways ∙ sym (span-next (planGrid q) (q .axes) e (omega arith))
@@ -100,9 +114,27 @@ module _ (q : Plan) (ok : Accepted q) where
                 (λ s. let ne = eqb-false i e s in getD-set-other T e i _ 0 ne ∙ t .sents i (omega (arith, ne)) v);
           }
 
-  -- what the tallies tell is small
-  pub span-told : {t : Tallies} → Tallied q t → (d : ℕ) → d ≤ q .axes → getD (t .span) d 0 ≤ 1024
-  span-told h d l = rw (h .spans d l) (span-small q ok d l)
+  -- all places are filled
+  pub tallying-end : (t : Tallies) (d : ℕ) → d ≤ 0 → length (t .span) ≡ places → length (t .sent) ≡ places → Tallying q (t .span) (t .sent) d → Tallied q t
+  tallying-end t d z m n h =
+      record {
+        spans = filled-places (λ i. span (planGrid q) (q .axes - i) i) (t .span) m (λ i u. h .spans i (omega arith) u);
+        sents = filled-places (λ i. sendings (planGrid q) (q .axes - i) i) (t .sent) n (λ i u. h .sents i (omega arith) u);
+      }
 
-  pub sent-told : {t : Tallies} → Tallied q t → (d : ℕ) → d ≤ q .axes → getD (t .sent) d 0 ≤ 262144
-  sent-told h d l = rw (h .sents d l) (sendings-small q ok d l)
+  module _ {t : Tallies} (h : Tallied q t) (d : ℕ) (l : d ≤ q .axes) where
+    within : d < places
+    within = let f = few-axes ok in omega arith
+
+    pub span-at : getD (t .span) d 0 ≡ span (planGrid q) (q .axes - d) d
+    span-at = ap (λ r. getD r d 0) (h .spans) ∙ table-here places (λ i. span (planGrid q) (q .axes - i) i) d within
+
+    pub sent-at : getD (t .sent) d 0 ≡ sendings (planGrid q) (q .axes - d) d
+    sent-at = ap (λ r. getD r d 0) (h .sents) ∙ table-here places (λ i. sendings (planGrid q) (q .axes - i) i) d within
+
+    -- what the tallies tell is small
+    pub span-told : getD (t .span) d 0 ≤ 1024
+    span-told = rw span-at (span-small q ok d l)
+
+    pub sent-told : getD (t .sent) d 0 ≤ 262144
+    sent-told = rw sent-at (sendings-small q ok d l)

@@ -19,6 +19,7 @@ use Rattle.rack_spec.specs.Steps.{visit, walk}
 use Rattle.rack_spec.specs.Answers.{Told, done, expands, finishes, telling, toldAt}
 use Rattle.rack_spec.proofs.Seeking.{few, kept-on, summed-out, sending, leaf-finish, leaf-done, visit-first, visit-walks, visit-last, visit-past, walk-done, walk-later, walk-sends, walk-visits, root-walking}
 use Rattle.rack_count.specs.Tallied.{Tallied}
+use Rattle.rack_count.proofs.Tallying.{span-at, sent-at}
 use Rattle.rack_count.specs.declared.counts.Tallies.{Tallies}
 use Rattle.rack_find.specs.declared.types.Search.{Search}
 use Rattle.rack_find.specs.Searching.{Searching}
@@ -196,13 +197,13 @@ module _ {q : Plan} {s : Search} {mask d n rest : ℕ} (z : Searching q s mask d
 pub root-searching : {q : Plan} (ok : Accepted q) → planRefusal q ≡ 0 → {t : Tallies} → Tallied q t
     → {mask : ℕ} → mask ≡ fullMask (min (q .axes) axisLimit)
     → Searching q (record { axes = q .axes; order = q .order; exponents = q .exponents; sent = t .sent }) mask 0 1 (getD (t .span) 0 0)
-root-searching ok passed h e =
+root-searching {q} ok passed h e =
     record {
       accepted = ok;
       walking = rw e (root-walking ok passed);
       axes = refl;
       order = refl;
       exponents = refl;
-      sents = h .sents;
-      spans = h .spans 0 (omega arith);
+      sents = sent-at q ok h;
+      spans = span-at q ok h 0 (omega arith);
     }

@@ -1,11 +1,11 @@
 // Boards by their labels: portions, extents, leads and cells. Axes go by their place in the plan.
 ghost use mathlib.Core.Path.{_≡_};
-ghost use Prim.Native.Nat.{ℕ, suc, _-_, _*_, _^_, _≤_, _<_};
+ghost use Prim.Native.Nat.{suc, _-_, _*_, _^_, _≤_, _<_};
 ghost use mathlib.Core.Bool.{_||_, not};
 ghost use lib.Dec.{eqb};
-ghost use lib.ListN.{getD, length};
-ghost use Rattle.cube_spec.specs.Limits.{lengthLimit, pointLimit};
-ghost use Rattle.cube_spec.specs.Boxes.{product};
+ghost use lib.ListN.{getD};
+ghost use Rattle.cube_spec.specs.Limits.{lengthLimit, pointLimit, padded};
+ghost use Rattle.cube_spec.specs.Boxes.{table, product};
 ghost use Rattle.cube_spec.specs.Tree.{has, kept, next};
 ghost use Rattle.plan_spec.specs.Refusals.{planRefusal};
 ghost use Rattle.rack_spec.specs.Grids.{boards, boardWith, label, lead, box, cells, share, index};
@@ -29,7 +29,7 @@ pub fn extent_of(plan: Plan, d: usize, l: u64) -> u64
 // The labels, by place, of the lead that has a rank among the leads of a choice.
 pub fn lead_labels(plan: Plan, choice: Choice, rank: u64) -> [u64; 8]
     requires { ⌜ (planRefusal plan ≡ 0) × (rank < leads (planGrid plan) (summedIn plan (choice .mask))) ⌝ }
-    ensures { λ r. ⌜ (length r ≡ 8) × ((d : ℕ) → d < plan .axes → getD r d 0 ≡ leadLabel (planGrid plan) (summedIn plan (choice .mask)) rank d) ⌝ }
+    ensures { λ r. ⌜ r ≡ padded (table (plan .axes) (leadLabel (planGrid plan) (summedIn plan (choice .mask)) rank)) ⌝ }
 {
     let mut labels = [0u64; 8];
     let mut rest = rank;
@@ -75,7 +75,7 @@ pub fn leads_of(plan: Plan, choice: Choice) -> u64
 // The labels of a board: it is a lead of the choice that keeps every axis, and its number is its rank.
 pub fn labels_of(plan: Plan, board: u64) -> [u64; 8]
     requires { ⌜ (planRefusal plan ≡ 0) × (board < boards (planGrid plan)) ⌝ }
-    ensures { λ r. ⌜ ((d : ℕ) → d < plan .axes → getD r d 0 ≡ label (planGrid plan) board d) ⌝ }
+    ensures { λ r. ⌜ r ≡ padded (table (plan .axes) (label (planGrid plan) board)) ⌝ }
 {
     let full = Choice::full(plan.axes);
     lead_labels(plan, full, board)

@@ -10,14 +10,15 @@ use lib.Dec.{eqb}
 use lib.ListN.{length, getD, take, set}
 use lib.Seq.{getD-take, getD-set-same, getD-set-other}
 use borrow.Author.Tests.{eqb-true, eqb-false, eq-eqb, ne-eqb}
-use Rattle.cube_spec.specs.Limits.{axisLimit, lengthLimit, pointLimit}
-use Rattle.cube_spec.specs.Boxes.{pick, product, place, position}
+use Rattle.cube_spec.specs.Limits.{axisLimit, lengthLimit, pointLimit, padded}
+use Rattle.cube_spec.specs.Boxes.{pick, table, product, place, position}
 use Rattle.cube_spec.specs.Choices.{keeps, fullMask, points, lengthOf}
 use Rattle.cube_spec.specs.Portions.{portionStart}
 use Rattle.cube_spec.specs.Tree as Tree
 use Rattle.cube_spec.specs.Tree.{has, kept, next}
 use Rattle.cube_spec.proofs.Sums.{by}
 use Rattle.cube_spec.proofs.Naturals.{clash}
+use Rattle.cube_spec.proofs.Slots.{slots-table}
 use Rattle.cube_spec.proofs.Boxing.{product-cong, place-cong, place-lt, position-place, position-lt, place-position}
 use Rattle.cube_spec.proofs.Products.{product-append, product-last, product-next, product-none, product-pos, product-le}
 use Rattle.cube_spec.proofs.Sets.{Down, down-up, down-lt, kept-has, kept-out}
@@ -249,6 +250,7 @@ pub record Ranking (q : Plan) (mask rank : ℕ) (labels : List ℕ) (rest d : �
   pub left : rest ≡ rank / product (kept (summedIn q mask) (planGrid q .parts)) (q .axes - d) d
   pub blank : (i : ℕ) → i < d → getD labels i 0 ≡ 0
   pub known : (i : ℕ) → d ≤ i → i < q .axes → getD labels i 0 ≡ leadLabel (planGrid q) (summedIn q mask) rank i
+  pub past : (i : ℕ) → q .axes ≤ i → getD labels i 0 ≡ 0
 
 zeros : (i : ℕ) → _≡_ {A = ℕ} (getD (0 ∷ 0 ∷ 0 ∷ 0 ∷ 0 ∷ 0 ∷ 0 ∷ 0 ∷ []) i 0) 0
 zeros zero = refl
@@ -268,6 +270,7 @@ module _ (q : Plan) (ok : Accepted q) (mask rank : ℕ) where
         left = sym (ap (λ x. rank / x) (product-none (kept (summedIn q mask) (planGrid q .parts)) (q .axes) (q .axes) (le-refl _)) ∙ div-one rank);
         blank = λ i h. zeros i;
         known = λ i l h. absurd (omega arith);
+        past = λ i h. zeros i;
       }
 
   module _ (below : rank < leads (planGrid q) (summedIn q mask)) (labels : List ℕ) (rest d : ℕ) (l : d ≤ q .axes) (h : 0 < d) where
@@ -298,6 +301,7 @@ module _ (q : Plan) (ok : Accepted q) (mask rank : ℕ) where
           known = λ i u v. by (eqb i e)
               (λ s. rw (eqb-true i e s) (getD-set-same labels e _ 0 (omega arith) ∙ ap (λ x. x % planGrid q .parts e) b ∙ k .0))
               (λ s. let ne = eqb-false i e s in getD-set-other labels e i _ 0 ne ∙ r .known i (omega (arith, ne)) v);
+          past = λ i u. getD-set-other labels e i _ 0 (λ z. omega arith) ∙ r .past i u;
         }
 
     pub ranking-summed : Ranking q mask rank labels rest d → keeps mask (getD (q .order) e 0) ≡ false → Ranking q mask rank labels rest e
@@ -309,10 +313,12 @@ module _ (q : Plan) (ok : Accepted q) (mask rank : ℕ) where
           known = λ i u v. by (eqb i e)
               (λ s. rw (eqb-true i e s) (r .blank e (omega arith) ∙ k .0))
               (λ s. let ne = eqb-false i e s in r .known i (omega (arith, ne)) v);
+          past = r .past;
         }
 
-  pub ranking-end : (labels : List ℕ) (rest d : ℕ) → d ≤ 0 → Ranking q mask rank labels rest d → (i : ℕ) → i < q .axes → getD labels i 0 ≡ leadLabel (planGrid q) (summedIn q mask) rank i
-  ranking-end labels rest d z r i h = r .known i (omega arith) h
+  pub ranking-end : (labels : List ℕ) (rest d : ℕ) → d ≤ 0 → length labels ≡ 8 → Ranking q mask rank labels rest d
+      → labels ≡ padded (table (q .axes) (leadLabel (planGrid q) (summedIn q mask) rank))
+  ranking-end labels rest d z n r = slots-table (q .axes) (leadLabel (planGrid q) (summedIn q mask) rank) labels n (λ i h. r .known i (omega arith) h) (r .past)
 
 -- a set told by a test has its last place first
 pub set-down : (f : ℕ → Bool) (n : ℕ) → Down (setOf f n) n
@@ -348,6 +354,10 @@ module _ (q : Plan) (ok : Accepted q) where
   pub full-label : (b d : ℕ) → leadLabel (planGrid q) (summedIn q (fullMask (min (q .axes) axisLimit))) b d ≡ label (planGrid q) b d
   unfolding leadLabel label
   full-label b d = ap (λ Y. position (kept Y (planGrid q .parts)) (planGrid q .axes) 0 b d) full-set ∙ ap (λ e. position e (planGrid q .axes) 0 b d) (kept-all (planGrid q .parts))
+
+  pub full-labels : (b : ℕ)
+      → padded (table (q .axes) (leadLabel (planGrid q) (summedIn q (fullMask (min (q .axes) axisLimit))) b)) ≡ padded (table (q .axes) (label (planGrid q) b))
+  full-labels b = ap (λ f. padded (table (q .axes) f)) (fun-ext (full-label b))
 
   -- ---- leads, axis by axis
 

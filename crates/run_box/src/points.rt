@@ -1,9 +1,9 @@
 // A board's box of a choice's cells: its extents, the strides of its axes, and its first cell. Axes go by their place in the plan; the root's cells are the points of the array.
 ghost use mathlib.Core.Path.{_≡_};
-ghost use Prim.Native.Nat.{ℕ, _*_, _≤_, _<_};
-ghost use lib.ListN.{getD, length};
-ghost use Rattle.cube_spec.specs.Boxes.{sumN};
-ghost use Rattle.cube_spec.specs.Limits.{pointLimit};
+ghost use Prim.Native.Nat.{_*_, _≤_, _<_};
+ghost use lib.ListN.{getD};
+ghost use Rattle.cube_spec.specs.Boxes.{sumN, table};
+ghost use Rattle.cube_spec.specs.Limits.{pointLimit, padded};
 ghost use Rattle.plan_spec.specs.Refusals.{planRefusal};
 ghost use Rattle.rack_spec.specs.Grids.{boardWith, box};
 ghost use Rattle.rack_spec.specs.Finding.{planGrid, summedIn, Labels};
@@ -43,7 +43,7 @@ fn stride_of(plan: Plan, choice: Choice, d: usize) -> u64
 // All strides.
 pub fn strides_of(plan: Plan, choice: Choice) -> [usize; 8]
     requires { ⌜ planRefusal plan ≡ 0 ⌝ }
-    ensures { λ r. ⌜ Strides plan (choice .mask) r ⌝ }
+    ensures { λ r. ⌜ r ≡ padded (table (plan .axes) (cellStride (planGrid plan) (summedIn plan (choice .mask)))) ⌝ }
 {
     let mut strides = [0usize; 8];
     let mut d: usize = 0;
@@ -58,7 +58,7 @@ pub fn strides_of(plan: Plan, choice: Choice) -> [usize; 8]
 // All extents of the board with these labels, 1 on a summed axis.
 pub fn extents_of(plan: Plan, choice: Choice, labels: [u64; 8]) -> [usize; 8]
     requires { ⌜ (planRefusal plan ≡ 0) × (Labels plan labels) ⌝ }
-    ensures { λ r. ⌜ (length r ≡ 8) × ((d : ℕ) → d < plan .axes → getD r d 0 ≡ box (planGrid plan) (summedIn plan (choice .mask)) (boardWith (planGrid plan) (λ i. getD labels i 0)) d) ⌝ }
+    ensures { λ r. ⌜ r ≡ padded (table (plan .axes) (box (planGrid plan) (summedIn plan (choice .mask)) (boardWith (planGrid plan) (λ i. getD labels i 0)))) ⌝ }
 {
     let mut extents = [0usize; 8];
     let mut d: usize = 0;

@@ -2,9 +2,11 @@
 ghost use mathlib.Core.Path.{_≡_};
 ghost use Prim.Native.Nat.{_+_, _*_, _^_, _≤_, _<_};
 ghost use lib.ListN.{getD};
-ghost use Rattle.cube_spec.specs.Limits.{pointLimit};
+ghost use Rattle.cube_spec.specs.Limits.{pointLimit, padded};
+ghost use Rattle.cube_spec.specs.Boxes.{table};
 ghost use Rattle.plan_spec.specs.Refusals.{planRefusal};
-ghost use Rattle.run_spec.specs.Expansions.{Regioned};
+ghost use Rattle.rack_spec.specs.Grids.{share, regionStart};
+ghost use Rattle.rack_spec.specs.Finding.{planGrid};
 use plan_region::region_of;
 use plan_spec::types::Plan;
 use rack_grid::places::share_of;
@@ -18,7 +20,8 @@ pub struct Regions {
 // They are the same for every board.
 pub fn regions_of(plan: Plan) -> Regions
     requires { ⌜ planRefusal plan ≡ 0 ⌝ }
-    ensures { λ r. ⌜ Regioned plan (r .share) (r .starts) ⌝ }
+    ensures { λ r. ⌜ (r .share ≡ share (planGrid plan)) × (r .starts ≡ padded (table (plan .axes) (regionStart (planGrid plan))))
+        × (r .share ≤ pointLimit * 8) ⌝ }
 {
     let share = share_of(plan);
     let mut starts = [0u64; 8];

@@ -1,15 +1,15 @@
-use Prim.Native.Nat.{ℕ, _+_, _-_, _≤_, _<_}
-use mathlib.Core.Path.{_≡_, sym, ap, _∙_}
+use Prim.Native.Nat.{ℕ, _-_, _≤_}
+use mathlib.Core.Path.{_≡_, ap, _∙_}
 use native.Mathlib.Omega.{arith}
-use borrow.Author.Needs.{needs}
 use lib.ListN.{length}
+use Rattle.cube_spec.proofs.Slots.{table-slots}
 use Rattle.plan_spec.specs.Plans.{listsOf}
 use Rattle.plan_spec.specs.Accepted.{Accepted}
 use Rattle.plan_spec.specs.declared.types.Plan.{Plan}
 use Rattle.plan_spec.proofs.Accepting.{passed-accepted}
 use Rattle.rack_spec.specs.Finding.{planGrid, summedIn, leads, leadAt}
 use Rattle.run_spec.specs.Memory.{read}
-use Rattle.run_spec.specs.Copies.{oneBoard, leadsTo, Copying}
+use Rattle.run_spec.specs.Copies.{oneBoard, leadsTo}
 use Rattle.run_spec.proofs.Copied.{copy-begin, copy-length, copy-turn, copy-end}
 use Rattle.run_spec.proofs.Gathers.{down, copying-on}
 use Rattle.plan_spec.proofs.PricingLaws.{few-axes}
@@ -17,13 +17,6 @@ use Rattle.rack_spec.specs.Grids.{regionStart}
 use Rattle.rack_spec.proofs.Planned.{share-plan, start-plan}
 use Rattle.run_copy.proofs.copy_all.Statement.{statement}
 use Rattle.run_copy.proofs.copy_all.Tie as tie
-use Rattle.run_copy.proofs.copy_all.Reads as reads
-use Rattle.run_copy.proofs.copy_all.Lts as lts
-use Rattle.rack_grid.proofs.places.leads_of.Reads as leads-of-reads
-use Rattle.rack_grid.proofs.places.next_of.Reads as next-of-reads
-use Rattle.run_copy.proofs.copy_rank.Reads as copy-rank-reads
-use Rattle.plan_region.proofs.region_of.Reads as region-of-reads
-use Rattle.run_box.proofs.points.strides_of.Reads as strides-of-reads
 
 abbrev leadCount : Plan → ℕ → ℕ
 leadCount q mask = leads (planGrid q) (summedIn q mask)
@@ -60,7 +53,22 @@ loop-holds c = let s = c .before .before .before .before in let gd = s .good .0 
 
 -- src/lib.rt:95:9
 copy-rank-requires : tie.Need-copy-rank-requires Inv-loop μ-loop
-copy-rank-requires c κs = let z = c .before .before in let s = z .before .before .before .before .before in let i = z .loop .inv in let rg = z .before .before in let nx = rg .before in let h = c .before .loop-test .taken in let e = i .1 in let f = few-axes (i .0) in let r = rg .region-of .ensures in let n = nx .next-of .ensures .1 in (copying-on (s .args .plan) (i .0) (s .args .choice .mask) (s .args .work .now) (s .args .result .now) _ (z .loop .r) (i .4) (s .pre), omega arith, nx .before .strides-of .ensures, r .1 ∙ share-plan (s .args .plan) (i .0), r .0 ∙ start-plan (s .args .plan) (i .0) (nx .next-of .result - 1) ∙ ap (λ n. regionStart (planGrid (s .args .plan)) (n - 1)) (nx .next-of .ensures .0), omega (arith, r .3), omega (arith, r .2))
+copy-rank-requires c κs =
+    let z = c .before .before in
+    let s = z .before .before .before .before .before in
+    let q = s .args .plan in
+    let i = z .loop .inv in
+    let rg = z .before .before in
+    let nx = rg .before in
+    let h = c .before .loop-test .taken in
+    let e = i .1 in
+    let f = few-axes (i .0) in
+    let r = rg .region-of .ensures in
+    let n = nx .next-of .ensures .1 in
+    let apart = table-slots (q .axes) _ (nx .before .strides-of .result) f (nx .before .strides-of .ensures) in
+    let start = r .0 ∙ start-plan q (i .0) (nx .next-of .result - 1) ∙ ap (λ n. regionStart (planGrid q) (n - 1)) (nx .next-of .ensures .0) in
+    let on = copying-on q (i .0) (s .args .choice .mask) (s .args .work .now) (s .args .result .now) _ (z .loop .r) (i .4) (s .pre) in
+    (on, omega arith, apart, r .1 ∙ share-plan q (i .0), start, omega (arith, r .3), omega (arith, r .2))
 
 -- src/lib.rt:96:9
 add-r : tie.Need-add-r Inv-loop μ-loop

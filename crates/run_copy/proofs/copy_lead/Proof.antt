@@ -1,5 +1,5 @@
-use native.Mathlib.Omega.{arith}
-use mathlib.Core.Path.{_≡_, sym, _∙_}
+use mathlib.Core.Path.{sym, _∙_}
+use Rattle.cube_spec.proofs.Slots.{table-slots}
 use Rattle.plan_spec.proofs.Accepting.{passed-accepted}
 use Rattle.plan_spec.proofs.PricingLaws.{few-axes}
 use Rattle.rack_spec.proofs.Tallied.{axes-same}
@@ -9,12 +9,6 @@ use Rattle.run_spec.proofs.Gathers.{lead-mergeable, lead-boxed, lead-copied}
 use borrow.Author.Needs.{needs}
 use Rattle.run_copy.proofs.copy_lead.Statement.{statement}
 use Rattle.run_copy.proofs.copy_lead.Tie as tie
-use Rattle.run_copy.proofs.copy_lead.Reads as reads
-use Rattle.run_copy.proofs.copy_lead.Lts as lts
-use Rattle.cell_copy.proofs.put_box.Reads as put-box-reads
-use Rattle.run_merge.proofs.merging.merge.Reads as merge-reads
-use Rattle.run_box.proofs.points.extents_of.Reads as extents-of-reads
-use Rattle.run_box.proofs.points.first_cell.Reads as first-cell-reads
 
 -- src/lib.rt:44:23
 extents-of-requires : tie.Need-extents-of-requires
@@ -38,7 +32,20 @@ slice-aggregate-merge-2 c = search needs
 
 -- src/lib.rt:49:9
 merge-requires : tie.Need-merge-requires
-merge-requires c κs = let f = c .before .before .before in let x = f .before in let s = x .before in let gd = s .good .0 .1 .1 .1 .1 in let ok = passed-accepted (s .args .plan) (gd .0 .1 .0 .1) (gd .1 .0 .1 .0 .1) (gd .1 .1 .0 .1 .0 .1) (s .pre .0 .passed) in lead-mergeable (s .args .plan) ok (s .args .choice .mask) (s .args .board) (s .pre .1) (s .pre .2) (s .args .labels) (x .extents-of .result) (s .args .strides) (f .first-cell .result) (s .pre .3) (x .extents-of .ensures .1) (s .pre .4 .1) (f .first-cell .ensures) (x .extents-of .ensures .0) (s .pre .4 .0) (few-axes ok)
+merge-requires c κs =
+    let f = c .before .before .before in
+    let x = f .before in
+    let s = x .before in
+    let q = s .args .plan in
+    let gd = s .good .0 .1 .1 .1 .1 in
+    let ok = passed-accepted q (gd .0 .1 .0 .1) (gd .1 .0 .1 .0 .1) (gd .1 .1 .0 .1 .0 .1) (s .pre .0 .passed) in
+    let sides = table-slots (q .axes) _ (x .extents-of .result) (few-axes ok) (x .extents-of .ensures) in
+    let a = s .args in
+    let p = s .pre in
+    let e = x .extents-of .result in
+    let k = f .first-cell in
+    lead-mergeable q ok (a .choice .mask) (a .board) (p .1) (p .2) (a .labels) e (a .strides) (k .result) (p .3) (sides .1) (p .4 .1) (k .ensures)
+    (sides .0) (p .4 .0) (few-axes ok)
 
 -- src/lib.rt:53:9
 slice-aggregate-put-box : tie.Need-slice-aggregate-put-box
@@ -54,7 +61,23 @@ sub-put-box c = search needs
 
 -- src/lib.rt:50:5
 put-box-requires : tie.Need-put-box-requires
-put-box-requires c κs = let m = c .before .before .before .before .before in let f = m .before .before .before .before in let x = f .before in let s = x .before in let gd = s .good .0 .1 .1 .1 .1 in let ok = passed-accepted (s .args .plan) (gd .0 .1 .0 .1) (gd .1 .0 .1 .0 .1) (gd .1 .1 .0 .1 .0 .1) (s .pre .0 .passed) in merged-boxed (m .merge .ensures) (lead-boxed (s .args .plan) ok (s .args .choice .mask) (s .args .board) (s .pre .1) (s .pre .2) (s .args .labels) (x .extents-of .result) (s .args .strides) (f .first-cell .result) (s .pre .3) (x .extents-of .ensures .1) (s .pre .4 .1) (f .first-cell .ensures) (s .args .plan .axes) (sym (axes-same (s .args .plan) ok)) (x .extents-of .ensures .0) (s .pre .4 .0) (few-axes ok) (s .args .src) (s .pre .5) (s .args .work .now) (s .args .result .now) (s .pre .0))
+put-box-requires c κs =
+    let m = c .before .before .before .before .before in
+    let f = m .before .before .before .before in
+    let x = f .before in
+    let s = x .before in
+    let q = s .args .plan in
+    let gd = s .good .0 .1 .1 .1 .1 in
+    let ok = passed-accepted q (gd .0 .1 .0 .1) (gd .1 .0 .1 .0 .1) (gd .1 .1 .0 .1 .0 .1) (s .pre .0 .passed) in
+    let sides = table-slots (q .axes) _ (x .extents-of .result) (few-axes ok) (x .extents-of .ensures) in
+    let a = s .args in
+    let p = s .pre in
+    let e = x .extents-of .result in
+    let k = f .first-cell in
+    merged-boxed (m .merge .ensures)
+    (lead-boxed q ok (a .choice .mask) (a .board) (p .1) (p .2) (a .labels) e (a .strides) (k .result) (p .3) (sides .1) (p .4 .1) (k .ensures)
+    (q .axes) (sym (axes-same q ok)) (sides .0) (p .4 .0)
+    (few-axes ok) (a .src) (p .5) (a .work .now) (a .result .now) (p .0))
 
 -- src/lib.rt:29:1
 same-length : tie.Need-same-length
@@ -62,7 +85,23 @@ same-length c = search needs
 
 -- src/lib.rt:29:1
 returns : tie.Need-returns
-returns c = let m = c .before .before .before .before .before .before .before in let f = m .before .before .before .before in let x = f .before in let s = x .before in let gd = s .good .0 .1 .1 .1 .1 in let ok = passed-accepted (s .args .plan) (gd .0 .1 .0 .1) (gd .1 .0 .1 .0 .1) (gd .1 .1 .0 .1 .0 .1) (s .pre .0 .passed) in c .before .put-box .ensures .1 ∙ merged-placed (m .merge .ensures) _ _ _ ∙ lead-copied (s .args .plan) ok (s .args .choice .mask) (s .args .board) (s .pre .1) (s .pre .2) (s .args .labels) (x .extents-of .result) (s .args .strides) (f .first-cell .result) (s .pre .3) (x .extents-of .ensures .1) (s .pre .4 .1) (f .first-cell .ensures) (s .args .plan .axes) (sym (axes-same (s .args .plan) ok)) (x .extents-of .ensures .0) (s .pre .4 .0) (few-axes ok) (s .args .src) (s .pre .5) (s .args .work .now) (s .args .result .now) (s .pre .0)
+returns c =
+    let m = c .before .before .before .before .before .before .before in
+    let f = m .before .before .before .before in
+    let x = f .before in
+    let s = x .before in
+    let q = s .args .plan in
+    let gd = s .good .0 .1 .1 .1 .1 in
+    let ok = passed-accepted q (gd .0 .1 .0 .1) (gd .1 .0 .1 .0 .1) (gd .1 .1 .0 .1 .0 .1) (s .pre .0 .passed) in
+    let sides = table-slots (q .axes) _ (x .extents-of .result) (few-axes ok) (x .extents-of .ensures) in
+    let a = s .args in
+    let p = s .pre in
+    let e = x .extents-of .result in
+    let k = f .first-cell in
+    c .before .put-box .ensures .1 ∙ merged-placed (m .merge .ensures) _ _ _
+    ∙ lead-copied q ok (a .choice .mask) (a .board) (p .1) (p .2) (a .labels) e (a .strides) (k .result) (p .3) (sides .1) (p .4 .1) (k .ensures)
+    (q .axes) (sym (axes-same q ok)) (sides .0) (p .4 .0)
+    (few-axes ok) (a .src) (p .5) (a .work .now) (a .result .now) (p .0)
 
 pub copy-lead-spec : {M : Type 1} → statement M
 copy-lead-spec =

@@ -3,8 +3,10 @@ use mathlib.Core.Path.{sym, _∙_, ap, ap₂}
 use native.Mathlib.Omega.{arith}
 use native.Mathlib.Nat.{mul-le-mul}
 use Rattle.cube_spec.specs.Tree.{next}
+use Rattle.cube_spec.proofs.Slots.{table-slots}
 use Rattle.plan_spec.specs.Plans.{listsOf}
 use Rattle.plan_spec.proofs.Accepting.{passed-accepted}
+use Rattle.plan_spec.proofs.PricingLaws.{few-axes}
 use Rattle.rack_spec.specs.Grids.{label}
 use Rattle.rack_spec.specs.Finding.{planGrid, summedIn}
 use Rattle.rack_spec.proofs.Planned.{first-cell}
@@ -14,11 +16,6 @@ use Rattle.run_spec.proofs.Ranked.{ranked-inside, ranked-lead, ranked-own, rank
 use borrow.Author.Needs.{needs}
 use Rattle.run_copy.proofs.copy_rank.Statement.{statement}
 use Rattle.run_copy.proofs.copy_rank.Tie as tie
-use Rattle.run_copy.proofs.copy_rank.Reads as reads
-use Rattle.run_copy.proofs.copy_rank.Lts as lts
-use Rattle.rack_grid.proofs.places.board_of.Reads as board-of-reads
-use Rattle.rack_grid.proofs.places.lead_labels.Reads as lead-labels-reads
-use Rattle.run_copy.proofs.copy_lead.Reads as copy-lead-reads
 
 -- src/lib.rt:78:9
 lead-labels-requires : tie.Need-lead-labels-requires
@@ -26,7 +23,15 @@ lead-labels-requires c κs = search needs
 
 -- src/lib.rt:79:9
 board-of-requires : tie.Need-board-of-requires
-board-of-requires c κs = let s = c .before in let gd = s .good .0 .1 .1 .1 .1 in let ok = passed-accepted (s .args .plan) (gd .0 .1 .0 .1) (gd .1 .0 .1 .0 .1) (gd .1 .1 .0 .1 .0 .1) (s .pre .0 .passed) in (s .pre .0 .passed, ranked-labels ok (s .args .choice .mask) (s .args .rank) (s .pre .1) (c .lead-labels .result) (c .lead-labels .ensures .1))
+board-of-requires c κs =
+    let s = c .before in
+    let l = c .lead-labels in
+    let q = s .args .plan in
+    let mask = s .args .choice .mask in
+    let gd = s .good .0 .1 .1 .1 .1 in
+    let ok = passed-accepted q (gd .0 .1 .0 .1) (gd .1 .0 .1 .0 .1) (gd .1 .1 .0 .1 .0 .1) (s .pre .0 .passed) in
+    let own = table-slots (q .axes) _ (l .result) (few-axes ok) (l .ensures) .1 in
+    (s .pre .0 .passed, ranked-labels ok mask (s .args .rank) (s .pre .1) (l .result) own)
 
 -- src/lib.rt:80:15
 mul-src : tie.Need-mul-src
@@ -38,7 +43,25 @@ add-src c = let s = c .before .before .before .before in let b = c .before .befo
 
 -- src/lib.rt:81:5
 copy-lead-requires : tie.Need-copy-lead-requires
-copy-lead-requires c κs = let o = c .before .before .before in let l = o .before in let s = l .before in let gd = s .good .0 .1 .1 .1 .1 in let ok = passed-accepted (s .args .plan) (gd .0 .1 .0 .1) (gd .1 .0 .1 .0 .1) (gd .1 .1 .0 .1 .0 .1) (s .pre .0 .passed) in let e = o .board-of .ensures .0 ∙ ranked-board ok (s .args .choice .mask) (s .args .rank) (s .pre .1) (l .lead-labels .result) (l .lead-labels .ensures .1) in (s .pre .0, rw e (ranked-inside ok (s .args .choice .mask) (s .args .rank) (s .pre .1)), rw e (ranked-lead ok (s .args .choice .mask) (s .args .rank) (s .pre .1)), λ d u. ranked-own ok (s .args .choice .mask) (s .args .rank) (s .pre .1) (l .lead-labels .result) (l .lead-labels .ensures .1) d u ∙ ap (λ b. label (planGrid (s .args .plan)) b d) (sym e), s .pre .2, ap₂ (λ a t. o .board-of .result * a + t) (s .pre .3) (s .pre .4) ∙ first-cell (planGrid (s .args .plan)) (o .board-of .result) (next (summedIn (s .args .plan) (s .args .choice .mask)) - 1))
+copy-lead-requires c κs =
+    let o = c .before .before .before in
+    let l = o .before .lead-labels in
+    let s = o .before .before in
+    let q = s .args .plan in
+    let mask = s .args .choice .mask in
+    let gd = s .good .0 .1 .1 .1 .1 in
+    let ok = passed-accepted q (gd .0 .1 .0 .1) (gd .1 .0 .1 .0 .1) (gd .1 .1 .0 .1 .0 .1) (s .pre .0 .passed) in
+    let own = table-slots (q .axes) _ (l .result) (few-axes ok) (l .ensures) .1 in
+    let b = o .board-of .result in
+    let e = o .board-of .ensures .0 ∙ ranked-board ok mask (s .args .rank) (s .pre .1) (l .result) own in
+    let src = ap₂ (λ a t. b * a + t) (s .pre .3) (s .pre .4) ∙ first-cell (planGrid q) b (next (summedIn q mask) - 1) in (
+      s .pre .0,
+      rw e (ranked-inside ok mask (s .args .rank) (s .pre .1)),
+      rw e (ranked-lead ok mask (s .args .rank) (s .pre .1)),
+      λ d u. ranked-own ok mask (s .args .rank) (s .pre .1) (l .result) own d u ∙ ap (λ b. label (planGrid q) b d) (sym e),
+      s .pre .2,
+      src,
+    )
 
 -- src/lib.rt:64:1
 same-length : tie.Need-same-length
@@ -46,7 +69,18 @@ same-length c = search needs
 
 -- src/lib.rt:64:1
 returns : tie.Need-returns
-returns c = let o = c .before .before .before .before .before in let l = o .before in let s = l .before in let gd = s .good .0 .1 .1 .1 .1 in let ok = passed-accepted (s .args .plan) (gd .0 .1 .0 .1) (gd .1 .0 .1 .0 .1) (gd .1 .1 .0 .1 .0 .1) (s .pre .0 .passed) in let e = o .board-of .ensures .0 ∙ ranked-board ok (s .args .choice .mask) (s .args .rank) (s .pre .1) (l .lead-labels .result) (l .lead-labels .ensures .1) in c .before .copy-lead .ensures ∙ ap (λ b. oneBoard (listsOf (s .args .plan) .lengths) (planGrid (s .args .plan)) (summedIn (s .args .plan) (s .args .choice .mask)) b (read (s .args .work .now)) (s .args .result .now)) e
+returns c =
+    let o = c .before .before .before .before .before in
+    let l = o .before .lead-labels in
+    let s = o .before .before in
+    let q = s .args .plan in
+    let mask = s .args .choice .mask in
+    let gd = s .good .0 .1 .1 .1 .1 in
+    let ok = passed-accepted q (gd .0 .1 .0 .1) (gd .1 .0 .1 .0 .1) (gd .1 .1 .0 .1 .0 .1) (s .pre .0 .passed) in
+    let own = table-slots (q .axes) _ (l .result) (few-axes ok) (l .ensures) .1 in
+    let e = o .board-of .ensures .0 ∙ ranked-board ok mask (s .args .rank) (s .pre .1) (l .result) own in
+    c .before .copy-lead .ensures
+    ∙ ap (λ b. oneBoard (listsOf q .lengths) (planGrid q) (summedIn q mask) b (read (s .args .work .now)) (s .args .result .now)) e
 
 pub copy-rank-spec : {M : Type 1} → statement M
 copy-rank-spec =

@@ -7,7 +7,7 @@ use borrow.Author.Needs.{needs}
 use Rattle.plan_spec.specs.Accepted.{Accepted}
 use Rattle.plan_spec.proofs.Accepting.{passed-accepted}
 use Rattle.plan_spec.proofs.PricingLaws.{few-axes}
-use Rattle.rack_count.proofs.Tallying.{Tallying, tallying-start, tallying-turn, span-here, sent-here, turn-fits}
+use Rattle.rack_count.proofs.Tallying.{Tallying, tallying-start, tallying-turn, tallying-end, span-here, sent-here, turn-fits}
 use Rattle.rack_count.proofs.counts.tallies_of.Statement.{statement}
 use Rattle.rack_count.proofs.counts.tallies_of.Tie as tie
 use Rattle.rack_count.proofs.counts.tallies_of.Reads as reads
@@ -118,7 +118,11 @@ loop-again c = let z = c .before .before in let i = z .loop .inv in let s = z .b
 
 -- src/counts.rt:31:1
 returns : tie.Need-returns Inv-loop μ-loop
-returns c = let z = c .before in let i = z .loop .inv in record { spans = λ d l. i .4 .spans d (omega (arith, c .loop-test .left)) l; sents = λ d l. i .4 .sents d (omega (arith, c .loop-test .left)) l }
+returns c =
+    let z = c .before in
+    let s = z .before .before in
+    let i = z .loop .inv in
+    tallying-end (s .args .plan) (i .0) _ (z .loop .d) (c .loop-test .left) (i .2) (i .3) (i .4)
 
 pub tallies-of-spec : {M : Type 1} → statement M
 tallies-of-spec =

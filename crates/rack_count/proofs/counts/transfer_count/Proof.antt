@@ -4,7 +4,7 @@ use Prim.Native.Nat.{_+_, _-_, _≤_}
 use mathlib.Core.Path.{refl}
 use Rattle.plan_spec.proofs.PricingLaws.{few-axes}
 use Rattle.rack_spec.proofs.Tallied.{sent-fits}
-use Rattle.rack_count.proofs.Tallying.{span-told}
+use Rattle.rack_count.proofs.Tallying.{span-at, span-told}
 use borrow.Author.Needs.{needs}
 use Rattle.rack_count.proofs.counts.transfer_count.Statement.{statement}
 use Rattle.rack_count.proofs.counts.transfer_count.Tie as tie
@@ -46,7 +46,16 @@ mul-result-3 c = let s = c .before .before in let gd = s .good .0 .1 .1 .1 .1 in
 
 -- src/counts.rt:70:1
 returns : tie.Need-returns
-returns c = let s = c .before .before in let gd = s .good .0 .1 .1 .1 .1 in let ok = passed-accepted (s .args .plan) (gd .0 .1 .0 .1) (gd .1 .0 .1 .0 .1) (gd .1 .1 .0 .1 .0 .1) (s .pre .0) in let h : s .args .d + 1 ≤ s .args .plan .axes = omega (arith, s .pre .1) in let a = span-told (s .args .plan) ok (s .pre .3) (s .args .d + 1) h in let p = c .before .parts-of .ensures in let r : c .before .parts-of .result - 1 ≤ 1024 = omega arith in (rw (s .pre .3 .spans (s .args .d + 1) h, p .0) refl, sent-fits _ _ _ (s .pre .2) a r)
+returns c =
+    let s = c .before .before in
+    let q = s .args .plan in
+    let gd = s .good .0 .1 .1 .1 .1 in
+    let ok = passed-accepted q (gd .0 .1 .0 .1) (gd .1 .0 .1 .0 .1) (gd .1 .1 .0 .1 .0 .1) (s .pre .0) in
+    let h : s .args .d + 1 ≤ q .axes = omega (arith, s .pre .1) in
+    let a = span-told q ok (s .pre .3) (s .args .d + 1) h in
+    let p = c .before .parts-of .ensures in
+    let r : c .before .parts-of .result - 1 ≤ 1024 = omega arith in
+    (rw (span-at q ok (s .pre .3) (s .args .d + 1) h, p .0) refl, sent-fits _ _ _ (s .pre .2) a r)
 
 pub transfer-count-spec : {M : Type 1} → statement M
 transfer-count-spec =

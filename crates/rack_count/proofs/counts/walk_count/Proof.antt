@@ -3,7 +3,7 @@ use mathlib.Core.Path.{refl, _∙_}
 use Rattle.plan_spec.proofs.Accepting.{passed-accepted}
 use Rattle.plan_spec.proofs.PricingLaws.{few-axes}
 use Rattle.rack_spec.specs.Counts.{walkCount}
-use Rattle.rack_count.proofs.Tallying.{sent-told}
+use Rattle.rack_count.proofs.Tallying.{sent-at, sent-told}
 use borrow.Author.Needs.{needs}
 use Rattle.rack_count.proofs.counts.walk_count.Statement.{statement}
 use Rattle.rack_count.proofs.counts.walk_count.Tie as tie
@@ -34,7 +34,12 @@ count-with-requires c κs = let s = c .before .before in let gd = s .good .0 .1 
 -- src/counts.rt:70:1
 returns : tie.Need-returns
 unfolding walkCount
-returns c = let s = c .before .before .before in let e = c .count-with .ensures in (e .0 ∙ (rw (s .pre .3 .sents (s .args .d) (s .pre .1)) refl), e .1)
+returns c =
+    let s = c .before .before .before in
+    let gd = s .good .0 .1 .1 .1 .1 in
+    let ok = passed-accepted (s .args .plan) (gd .0 .1 .0 .1) (gd .1 .0 .1 .0 .1) (gd .1 .1 .0 .1 .0 .1) (s .pre .0) in
+    let e = c .count-with .ensures in
+    (e .0 ∙ (rw (sent-at (s .args .plan) ok (s .pre .3) (s .args .d) (s .pre .1)) refl), e .1)
 
 pub walk-count-spec : {M : Type 1} → statement M
 walk-count-spec =

@@ -1,6 +1,6 @@
 use native.Mathlib.Omega.{arith}
 use Rattle.plan_spec.proofs.Accepting.{passed-accepted}
-use mathlib.Core.Path.{refl, sym, ap, _∙_}
+use Rattle.cube_spec.proofs.Slots.{table-slots}
 use Rattle.plan_spec.proofs.PricingLaws.{few-axes}
 use Rattle.rack_spec.proofs.Found.{others-some, rank-in, lead-fits, sender-fits, label-fits, sent-told}
 use borrow.Author.Needs.{needs}
@@ -25,7 +25,13 @@ lead-labels-requires c κs = let s = c .before in (s .pre .passed, rw (c .parts-
 
 -- src/steps.rt:27:9
 board-of-requires : tie.Need-board-of-requires
-board-of-requires c κs = let s = c .before .before in let gd = s .good .0 .1 .1 .1 .1 in let ok = passed-accepted (s .args .plan) (gd .0 .1 .0 .1) (gd .1 .0 .1 .0 .1) (gd .1 .1 .0 .1 .0 .1) (s .pre .passed) in (s .pre .passed, lead-fits ok (s .pre) (c .lead-labels .result) (rw (← c .before .parts-of .ensures .0) (c .lead-labels .ensures .1)))
+board-of-requires c κs =
+    let s = c .before .before in
+    let l = c .lead-labels in
+    let gd = s .good .0 .1 .1 .1 .1 in
+    let ok = passed-accepted (s .args .plan) (gd .0 .1 .0 .1) (gd .1 .0 .1 .0 .1) (gd .1 .1 .0 .1 .0 .1) (s .pre .passed) in
+    let own = table-slots (s .args .plan .axes) _ (l .result) (few-axes ok) (l .ensures) in
+    (s .pre .passed, lead-fits ok (s .pre) (l .result) (rw (← c .before .parts-of .ensures .0) (own .1)))
 
 -- src/steps.rt:28:17
 rem-labels : tie.Need-rem-labels
@@ -45,11 +51,25 @@ array-write-labels c = let s = c .before .before .before in let gd = s .good .0 
 
 -- src/steps.rt:29:9
 board-of-requires-2 : tie.Need-board-of-requires-2
-board-of-requires-2 c κs = let s = c .before .before .before in let gd = s .good .0 .1 .1 .1 .1 in let ok = passed-accepted (s .args .plan) (gd .0 .1 .0 .1) (gd .1 .0 .1 .0 .1) (gd .1 .1 .0 .1 .0 .1) (s .pre .passed) in (s .pre .passed, rw (c .before .before .parts-of .ensures .0) (sender-fits ok (s .pre) (c .before .lead-labels .result) (c .before .lead-labels .ensures .0) (rw (← c .before .before .parts-of .ensures .0) (c .before .lead-labels .ensures .1))))
+board-of-requires-2 c κs =
+    let s = c .before .before .before in
+    let l = c .before .lead-labels in
+    let p = c .before .before .parts-of .ensures .0 in
+    let gd = s .good .0 .1 .1 .1 .1 in
+    let ok = passed-accepted (s .args .plan) (gd .0 .1 .0 .1) (gd .1 .0 .1 .0 .1) (gd .1 .1 .0 .1 .0 .1) (s .pre .passed) in
+    let own = table-slots (s .args .plan .axes) _ (l .result) (few-axes ok) (l .ensures) in
+    (s .pre .passed, rw p (sender-fits ok (s .pre) (l .result) (own .0) (rw (← p) (own .1))))
 
 -- src/steps.rt:30:9
 cells-with-requires : tie.Need-cells-with-requires
-cells-with-requires c κs = let s = c .before .before .before .before in let gd = s .good .0 .1 .1 .1 .1 in let ok = passed-accepted (s .args .plan) (gd .0 .1 .0 .1) (gd .1 .0 .1 .0 .1) (gd .1 .1 .0 .1 .0 .1) (s .pre .passed) in (s .pre .passed, rw (c .before .before .before .parts-of .ensures .0) (sender-fits ok (s .pre) (c .before .before .lead-labels .result) (c .before .before .lead-labels .ensures .0) (rw (← c .before .before .before .parts-of .ensures .0) (c .before .before .lead-labels .ensures .1))))
+cells-with-requires c κs =
+    let s = c .before .before .before .before in
+    let l = c .before .before .lead-labels in
+    let p = c .before .before .before .parts-of .ensures .0 in
+    let gd = s .good .0 .1 .1 .1 .1 in
+    let ok = passed-accepted (s .args .plan) (gd .0 .1 .0 .1) (gd .1 .0 .1 .0 .1) (gd .1 .1 .0 .1 .0 .1) (s .pre .passed) in
+    let own = table-slots (s .args .plan .axes) _ (l .result) (few-axes ok) (l .ensures) in
+    (s .pre .passed, rw p (sender-fits ok (s .pre) (l .result) (own .0) (rw (← p) (own .1))))
 
 -- src/steps.rt:32:17
 cast-t17 : tie.Need-cast-t17
@@ -61,7 +81,15 @@ cast-t18 c = search needs
 
 -- src/steps.rt:20:1
 returns : tie.Need-returns
-returns c = let s = c .before .before .before .before .before in let gd = s .good .0 .1 .1 .1 .1 in let ok = passed-accepted (s .args .plan) (gd .0 .1 .0 .1) (gd .1 .0 .1 .0 .1) (gd .1 .1 .0 .1 .0 .1) (s .pre .passed) in let p = c .before .before .before .before .parts-of .ensures .0 in sent-told ok (s .pre) (c .before .before .before .lead-labels .result) (c .before .before .before .lead-labels .ensures .0) (rw (← p) (c .before .before .before .lead-labels .ensures .1)) (c .before .before .board-of .ensures .0) (rw (← p) (c .before .board-of2 .ensures .0)) (rw (← p) (c .cells-with .ensures .0))
+returns c =
+    let s = c .before .before .before .before .before in
+    let l = c .before .before .before .lead-labels in
+    let p = c .before .before .before .before .parts-of .ensures .0 in
+    let gd = s .good .0 .1 .1 .1 .1 in
+    let ok = passed-accepted (s .args .plan) (gd .0 .1 .0 .1) (gd .1 .0 .1 .0 .1) (gd .1 .1 .0 .1 .0 .1) (s .pre .passed) in
+    let own = table-slots (s .args .plan .axes) _ (l .result) (few-axes ok) (l .ensures) in
+    let to = c .before .before .board-of .ensures .0 in
+    sent-told ok (s .pre) (l .result) (own .0) (rw (← p) (own .1)) to (rw (← p) (c .before .board-of2 .ensures .0)) (rw (← p) (c .cells-with .ensures .0))
 
 pub sending-spec : {M : Type 1} → statement M
 sending-spec =

@@ -1,24 +1,15 @@
 use native.Mathlib.Omega.{arith}
 use Rattle.plan_spec.proofs.Accepting.{passed-accepted}
 use borrow.Author.Needs.{needs}
-use Prim.Native.Nat.{ℕ, _+_, _-_, _*_, _/_, _%_, _≤_, _<_}
-use mathlib.Core.Path.{_≡_, refl, sym, ap, _∙_}
-use lib.ListN.{getD, length, length-set}
-use lib.Dec.{eqb}
-use lib.Seq.{getD-set-same, getD-set-other}
-use borrow.Author.Tests.{eqb-true, eqb-false}
-use Rattle.cube_spec.specs.Boxes.{product}
-use Rattle.cube_spec.specs.Tree.{kept}
+use Prim.Native.Nat.{_-_, _≤_, _<_}
+use mathlib.Core.Path.{_≡_, refl, sym, _∙_}
+use lib.ListN.{length, length-set}
 use Rattle.plan_spec.specs.Accepted.{Accepted}
 use Rattle.plan_spec.proofs.PricingLaws.{few-axes, order-fits}
-use Rattle.rack_spec.specs.Finding.{planGrid, summedIn, leadLabel, leads}
 use Rattle.rack_spec.proofs.Planned.{Ranking, ranking-start, ranking-kept, ranking-summed, ranking-end}
 use Rattle.rack_spec.proofs.Tallied.{parts-shifted, exponent-small, parts-small}
 use Rattle.rack_grid.proofs.places.lead_labels.Statement.{statement}
 use Rattle.rack_grid.proofs.places.lead_labels.Tie as tie
-use Rattle.rack_grid.proofs.places.lead_labels.Reads as reads
-use Rattle.rack_grid.proofs.places.lead_labels.Lts as lts
-use Rattle.cube_choice.proofs.types.Choice.keeps.Reads as keeps-reads
 
 abbrev Inv-loop : tie.InvT-loop
 Inv-loop choice rank plan labels₀ rest₀ d₀ labels rest d = (Accepted plan) × (d ≤ plan .axes) × (length labels ≡ 8) × Ranking plan (choice .mask) rank labels rest d
@@ -96,7 +87,11 @@ loop-again-2 c = let z = c .before .before .before .before in let s = z .before 
 
 -- src/places.rt:30:1
 returns : tie.Need-returns Inv-loop μ-loop
-returns c = let z = c .before in let s = z .before in let i = z .loop .inv in (i .2, λ d h. ranking-end (s .args .t1) (i .0) (s .args .choice .mask) (s .args .rank) (z .loop .labels) (z .loop .rest) (z .loop .d) (c .loop-test .left) (i .3) d h)
+returns c =
+    let z = c .before in
+    let s = z .before in
+    let i = z .loop .inv in
+    ranking-end (s .args .t1) (i .0) (s .args .choice .mask) (s .args .rank) (z .loop .labels) (z .loop .rest) (z .loop .d) (c .loop-test .left) (i .2) (i .3)
 
 pub lead-labels-spec : {M : Type 1} → statement M
 lead-labels-spec =

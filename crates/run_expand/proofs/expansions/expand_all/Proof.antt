@@ -1,8 +1,10 @@
 -- `run_expand::expansions::expand_all` meets its contract. The invariant: the leads of a rank below r are expanded.
 use Prim.Native.Nat.{_-_}
 use native.Mathlib.Omega.{arith}
+use Rattle.cube_spec.proofs.Slots.{table-slots}
 use Rattle.plan_spec.specs.Accepted.{Accepted}
 use Rattle.plan_spec.proofs.Accepting.{passed-accepted}
+use Rattle.plan_spec.proofs.PricingLaws.{few-axes}
 use Rattle.run_spec.specs.Memory.{read}
 use Rattle.run_spec.proofs.Expanded.{Ranks, ranks-begin, ranks-length, ranks-expand, ranks-turn, ranks-done}
 use Rattle.run_expand.proofs.expansions.expand_all.Statement.{statement}
@@ -43,9 +45,21 @@ expand-lead-requires : tie.Need-expand-lead-requires Inv-loop μ-loop
 expand-lead-requires c κs =
     let z = c .before .before in
     let s = z .before .before .before .before .before in
+    let q = s .args .plan in
     let i = z .loop .inv in
     let n = z .before .before .before .before .next-of .ensures in
-    (ranks-expand (i .0) (s .args .choice .mask) (read (s .args .array .now)) (s .args .work .now) (s .pre .0 .room) (i .1) (s .pre .0 .passed) (c .before .loop-test .taken), n .0, n .1, s .pre .1, z .before .before .before .regions-of .ensures, z .before .before .strides-of .ensures)
+    let g = z .before .before .before .regions-of in
+    let t = z .before .before .strides-of in
+    let starts = table-slots (q .axes) _ (g .result .starts) (few-axes (i .0)) (g .ensures .1) in
+    let apart = table-slots (q .axes) _ (t .result) (few-axes (i .0)) (t .ensures) in
+    let h = c .before .loop-test .taken in (
+      ranks-expand (i .0) (s .args .choice .mask) (read (s .args .array .now)) (s .args .work .now) (s .pre .0 .room) (i .1) (s .pre .0 .passed) h,
+      n .0,
+      n .1,
+      s .pre .1,
+      record { whole = g .ensures .0; most = g .ensures .2; slots = starts .0; each = starts .1 },
+      apart,
+    )
 
 -- src/expansions.rt:120:9
 add-r : tie.Need-add-r Inv-loop μ-loop

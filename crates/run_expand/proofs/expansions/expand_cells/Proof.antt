@@ -6,6 +6,7 @@ use native.Mathlib.Omega.{arith}
 use borrow.Author.Needs.{needs}
 use lib.ListN.{length}
 use Rattle.cube_spec.specs.Boxes.{table}
+use Rattle.cube_spec.proofs.Slots.{table-slots}
 use Rattle.plan_spec.specs.Accepted.{Accepted}
 use Rattle.plan_spec.proofs.Accepting.{passed-accepted}
 use Rattle.plan_spec.proofs.PricingLaws.{few-axes}
@@ -34,7 +35,8 @@ board-of-requires c κs =
     let s = c .before in
     let gd = s .good .0 .1 .1 .1 .1 in
     let ok = passed-accepted (s .args .plan) (gd .0 .1 .0 .1) (gd .1 .0 .1 .0 .1) (gd .1 .1 .0 .1 .0 .1) (s .pre .0 .passed) in
-    (s .pre .0 .passed, ranked-labels ok (s .args .choice .mask) (s .args .rank) (s .pre .0 .below) (c .lead-labels .result) (c .lead-labels .ensures .1))
+    let own = table-slots (s .args .plan .axes) _ (c .lead-labels .result) (few-axes ok) (c .lead-labels .ensures) .1 in
+    (s .pre .0 .passed, ranked-labels ok (s .args .choice .mask) (s .args .rank) (s .pre .0 .below) (c .lead-labels .result) own)
 
 -- src/expansions.rt:38:13
 cast-n : tie.Need-cast-n Inv-loop μ-loop
@@ -56,11 +58,13 @@ form-cells-requires c κs =
     let i = z .loop .inv in
     let ok = i .0 in
     let l = z .before .before .before .lead-labels in
-    let e = z .before .before .board-of .ensures .0 ∙ ranked-board ok (s .args .choice .mask) (s .args .rank) (s .pre .0 .below) (l .result) (l .ensures .1) in
+    let own = table-slots (s .args .plan .axes) _ (l .result) (few-axes ok) (l .ensures) .1 in
+    let e = z .before .before .board-of .ensures .0 ∙ ranked-board ok (s .args .choice .mask) (s .args .rank) (s .pre .0 .below) (l .result) own in
     let on = ranked-inside ok (s .args .choice .mask) (s .args .rank) (s .pre .0 .below) in
     let h = c .before .loop-test .taken in
     let f : Forms (s .args .plan) (s .args .choice .mask) (z .before .before .board-of .result) (z .loop .j) (length (z .loop .work)) = rw e (children-form ok (s .args .choice .mask) (read []) (s .args .work .now) (s .pre .0 .room) (i .1) (s .pre .0 .passed) on h) in
-    (λ d u. ranked-own ok (s .args .choice .mask) (s .args .rank) (s .pre .0 .below) (l .result) (l .ensures .1) d u ∙ ap (λ b. label (planGrid (s .args .plan)) b d) (sym e), f, s .pre .1, s .pre .2, s .pre .4)
+    let at = ranked-own ok (s .args .choice .mask) (s .args .rank) (s .pre .0 .below) (l .result) own in
+    (λ d u. at d u ∙ ap (λ b. label (planGrid (s .args .plan)) b d) (sym e), f, s .pre .1, s .pre .2, s .pre .4)
 
 -- src/expansions.rt:42:9
 add-j : tie.Need-add-j Inv-loop μ-loop
@@ -83,7 +87,8 @@ loop-again c =
     let i = z .loop .inv in
     let ok = i .0 in
     let l = z .before .before .before .lead-labels in
-    let e = z .before .before .board-of .ensures .0 ∙ ranked-board ok (s .args .choice .mask) (s .args .rank) (s .pre .0 .below) (l .result) (l .ensures .1) in
+    let own = table-slots (s .args .plan .axes) _ (l .result) (few-axes ok) (l .ensures) .1 in
+    let e = z .before .before .board-of .ensures .0 ∙ ranked-board ok (s .args .choice .mask) (s .args .rank) (s .pre .0 .below) (l .result) own in
     let on = ranked-inside ok (s .args .choice .mask) (s .args .rank) (s .pre .0 .below) in
     let w = z .loop .work in
     (ok, children-turn ok (s .args .choice .mask) (read []) (s .args .work .now) (s .pre .0 .room) (i .1) on (ranked-lead ok (s .args .choice .mask) (s .args .rank) (s .pre .0 .below)) (c .before .before .before .loop-test .taken) _ (c .before .form-cells .ensures ∙ ap (λ b. table (length w) (oneChild (planGrid (s .args .plan)) (read []) (summedIn (s .args .plan) (s .args .choice .mask)) b (z .loop .j) (read w))) e))

@@ -5,6 +5,7 @@ use native.Mathlib.Omega.{arith}
 use borrow.Author.Needs.{needs}
 use lib.ListN.{length}
 use Rattle.cube_spec.specs.Boxes.{table}
+use Rattle.cube_spec.proofs.Slots.{table-slots}
 use Rattle.plan_spec.specs.Accepted.{Accepted}
 use Rattle.plan_spec.proofs.Accepting.{passed-accepted}
 use Rattle.plan_spec.proofs.PricingLaws.{few-axes}
@@ -40,7 +41,8 @@ extents-of-requires c κs =
     let gd = s .good .0 .1 .1 .1 .1 in
     let ok = passed-accepted (s .args .plan) (gd .0 .1 .0 .1) (gd .1 .0 .1 .0 .1) (gd .1 .1 .0 .1 .0 .1) (s .pre .0 .passed) in
     let r = root-lead (planGrid (s .args .plan)) (summedIn (s .args .plan) (s .args .root .mask)) (s .args .board) (next-empty (summedIn (s .args .plan) (s .args .root .mask)) (s .pre .1)) (s .pre .0 .below) in
-    (s .pre .0 .passed, own-fit (s .args .plan) ok (s .args .board) (r .0) (c .labels-of .result) (c .labels-of .ensures))
+    let own = table-slots (s .args .plan .axes) _ (c .labels-of .result) (few-axes ok) (c .labels-of .ensures) .1 in
+    (s .pre .0 .passed, own-fit (s .args .plan) ok (s .args .board) (r .0) (c .labels-of .result) own)
 
 -- src/expansions.rt:68:9
 first-cell-requires : tie.Need-first-cell-requires Inv-loop μ-loop
@@ -49,7 +51,8 @@ first-cell-requires c κs =
     let gd = s .good .0 .1 .1 .1 .1 in
     let ok = passed-accepted (s .args .plan) (gd .0 .1 .0 .1) (gd .1 .0 .1 .0 .1) (gd .1 .1 .0 .1 .0 .1) (s .pre .0 .passed) in
     let r = root-lead (planGrid (s .args .plan)) (summedIn (s .args .plan) (s .args .root .mask)) (s .args .board) (next-empty (summedIn (s .args .plan) (s .args .root .mask)) (s .pre .1)) (s .pre .0 .below) in
-    (s .pre .0 .passed, own-fit (s .args .plan) ok (s .args .board) (r .0) (c .before .labels-of .result) (c .before .labels-of .ensures), s .pre .4)
+    let own = table-slots (s .args .plan .axes) _ (c .before .labels-of .result) (few-axes ok) (c .before .labels-of .ensures) .1 in
+    (s .pre .0 .passed, own-fit (s .args .plan) ok (s .args .board) (r .0) (c .before .labels-of .result) own, s .pre .4)
 
 -- src/expansions.rt:69:13
 cast-n : tie.Need-cast-n Inv-loop μ-loop
@@ -75,7 +78,15 @@ form-points-requires c κs =
     let l = z .before .before .before .before .labels-of in
     let e = z .before .before .before .extents-of in
     let p = z .before .before .first-cell in
-    (children-form ok (s .args .root .mask) (read (s .args .array .now)) (s .args .work .now) (s .pre .0 .room) (i .1) (s .pre .0 .passed) (r .0) h, s .pre .1, s .pre .2, s .pre .3, board-box (s .args .plan) ok (s .args .root .mask) (s .args .board) (r .0) (l .result) (e .result) (s .args .strides) (p .result) (l .ensures) (e .ensures .0) (e .ensures .1) (s .pre .4) (p .ensures))
+    let own = table-slots (s .args .plan .axes) _ (l .result) (few-axes ok) (l .ensures) .1 in
+    let sides = table-slots (s .args .plan .axes) _ (e .result) (few-axes ok) (e .ensures) in
+    let box = board-box (s .args .plan) ok (s .args .root .mask) (s .args .board) (r .0) (l .result) (e .result) (s .args .strides) (p .result) in (
+      children-form ok (s .args .root .mask) (read (s .args .array .now)) (s .args .work .now) (s .pre .0 .room) (i .1) (s .pre .0 .passed) (r .0) h,
+      s .pre .1,
+      s .pre .2,
+      s .pre .3,
+      box own (sides .0) (sides .1) (s .pre .4) (p .ensures),
+    )
 
 -- src/expansions.rt:84:9
 add-j : tie.Need-add-j Inv-loop μ-loop
