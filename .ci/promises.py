@@ -2,10 +2,10 @@
 """Checks that docs/PROMISES.md points to what is there.
 
 Each `crate/File.name` must be a name that specs/ or proofs/ of that crate declares in that file, each `crate/File` such a
-file. Each `crate/file` must be a file of code of that crate, and the names in backquotes that follow it, up to the next
-place or other text, functions, types or constants of it. Each other name in backquotes must be one that some file of the
-crates declares, and each crate/edit_name a must-fail edit; each edit must be named. Prints what is not so; exit status 1
-if there is any.
+file, and the names in brackets after it, up to a colon, names of that file. Each `crate/file` must be a file of code of
+that crate, and the names in backquotes that follow it, up to the next place or other text, functions, types or constants
+of it. Each other name in backquotes must be one that some file of the crates declares, and each crate/edit_name a
+must-fail edit; each edit must be named. Prints what is not so; exit status 1 if there is any.
 """
 import pathlib
 import re
@@ -48,6 +48,12 @@ for word in re.findall(r'`([^`]+)`', text):
         for part in re.split(r'\.|::|\(|\)', word):
             if part and part not in every and part not in ('campaign_plan', 'requires', 'specs', 'antt'):
                 bad.append(f'nothing declares {part} (in `{word}`)')
+# a file and names of it in brackets: `crate/File` (`name`, `name`: what it says)
+for place in re.finditer(r'`([a-z_]+)/([A-Z]\w*)(?:\.\S+?)?`((?:, `[\w.-]+`)*) \(((?:[^()]|\([^()]*\))*)\)', text):
+    crate, stem, _, inside = place.groups()
+    for name in re.findall(r'`([a-z][\w-]*)`', inside.split(':')[0]):
+        if name not in declared.get((crate, stem), ()):
+            bad.append(f'{stem}.antt of {crate} declares no {name}')
 edits = {f'{e.parts[-3]}/{e.stem}' for e in root.glob('crates/*/must-fail/*.edit')}
 crates = '|'.join(sorted({c for c, _ in declared}))
 named = set(re.findall(rf'\b((?:{crates})/[a-z]\w*_\w+)\b', text))

@@ -1,14 +1,14 @@
 -- Laws of what planning, step, view and gather leave in what a caller in C lends.
 use Prim.Native.Nat.{ℕ, zero, suc}
 use mathlib.Core.Path.{_≡_, refl, sym, ap, ap₂, _∙_}
-use mathlib.Core.Bool.{Bool, true, false}
-use mathlib.Core.List.{List, [], _∷_}
+use mathlib.Core.Bool.{Bool, true, false, not}
+use mathlib.Core.List.{List, [], _∷_, _++_}
 use native.Mathlib.Omega.{arith}
 use borrow.Author.Tests.{eq-eqb, ne-eqb, eqb-true, eqb-false}
 use lib.Dec.{eqb}
-use lib.ListN.{length, take, drop}
+use lib.ListN.{length, getD, take, drop}
 use lib.IntN.{ℤ}
-use Rattle.cube_spec.specs.Checks.{check, first}
+use Rattle.cube_spec.specs.Checks.{Check, check, first}
 use Rattle.plan_spec.specs.declared.types.Plan.{Plan}
 use Rattle.plan_spec.specs.declared.types.Prices.{Prices}
 use Rattle.plan_spec.specs.declared.types.Planned.{Planned}
@@ -160,6 +160,13 @@ module _ (g q : Plan) (e : g ≡ q) where
 
 -- ---- what a caller may build on
 
+-- no check of a list is due where none of a longer one is
+granted : (checks more : List Check) → first (checks ++ more) ≡ 0 → first checks ≡ 0
+granted checks more z =
+    by (eqb (first checks) 0)
+    (λ t. eqb-true _ 0 t)
+    (λ t. let ne = eqb-false (first checks) 0 t in absurd (ne (sym (first-due checks more ne) ∙ z)))
+
 -- a plan and prices put in slices and read back
 back : (q : Plan) (c : Prices) (q′ : Plan) (c′ : Prices) → planFrom (bytesOf q) (q .lengths) ≡ q′ → c ≡ c′
     → readBack (bytesOf q) (q .lengths) (cellsPriced c) ≡ record { refusal = 0; plan = q′; prices = c′ }
@@ -182,10 +189,7 @@ module _ (ds : List ℕ) (p : ℕ) where
   module _ (small slots prices : List ℕ) where
     passes : makeRefusal ds p (length small) (length slots) (length prices) ≡ 0 → planningRefusal ds p ≡ 0
     unfolding makeRefusal planningRefusal
-    passes z =
-        by (eqb (first (planningChecks ds p)) 0)
-        (λ t. eqb-true _ 0 t)
-        (λ t. let ne = eqb-false (first (planningChecks ds p)) 0 t in absurd (ne (sym (first-due (planningChecks ds p) _ ne) ∙ z)))
+    passes z = granted (planningChecks ds p) _ z
 
     pub make-taken : makeRefusal ds p (length small) (length slots) (length prices) ≡ 0
         → planFrom (making ds p small slots prices .small) (making ds p small slots prices .slots) ≡ slotted (planOf ds p)
@@ -216,7 +220,12 @@ module _ (ds : List ℕ) (p : ℕ) where
         → planRefusal (planFrom (making ds p small slots prices .small) (making ds p small slots prices .slots)) ≡ 0
     make-accepted z = rw (make-taken z) (planned-accepted ds p (passes z))
 
--- where view is not refused, the cells that it names in the caller's own area are those that the paper's view shows
-pub part-viewed : (q : Plan) (work : List ℤ) (at b : ℕ) → viewRefusal q (length work) at b ≡ 0
-    → take (partOf (planGrid q) at b .cells) (drop (partOf (planGrid q) at b .start) work) ≡ viewing q work at b
-part-viewed q work at b z = shown-part q work at b z
+view-granted : (q : Plan) (work at b lent : ℕ) → partRefusal q work at b lent ≡ 0 → viewRefusal q work at b ≡ 0
+unfolding partRefusal lentRefusal viewRefusal
+view-granted q work at b lent z = granted (viewChecks q work at b) (check 13 (not (eqb lent 2)) ∷ []) z
+
+-- where `campaign_view` is not refused, the cells that it names in the caller's own area are those that the paper's view shows
+pub part-viewed : (q : Plan) (work : List ℤ) (at b : ℕ) (part : List ℕ) → partRefusal q (length work) at b (length part) ≡ 0
+    → let named = parting q (length work) at b part in take (getD named 1 0) (drop (getD named 0 0) work) ≡ viewing q work at b
+unfolding parting writtenOr
+part-viewed q work at b part z = rw z (shown-part q work at b (view-granted q (length work) at b (length part) z))

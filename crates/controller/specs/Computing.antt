@@ -1,8 +1,8 @@
 -- Names every definition, so that a fact that computes with them says `unfolding computing`.
 use Prim.Native.Nat.{ℕ}
 use Rattle.controller.specs.Bytes
-use Rattle.plan_spec.specs.Computing as planner
+use Rattle.plan_spec.specs.Computing as plan_spec
 
 unfoldable pub computing : ℕ
-unfolding Bytes.pairs Bytes.oddBytes Bytes.wrongResult Bytes.controllerChecks Bytes.controllerRefusal Bytes.writtenOr Bytes.written Bytes.planIn planner.computing
+unfolding Bytes.pairs Bytes.oddBytes Bytes.wrongResult Bytes.controllerChecks Bytes.controllerRefusal Bytes.writtenOr Bytes.written Bytes.planIn plan_spec.computing
 computing = 0

@@ -30,12 +30,6 @@ kept-le ds mask d h =
     (λ t. let q = kept-length ds mask d t in omega arith)
     (λ t. let q = summed-length ds mask d t in omega arith)
 
-kept-pos : (ds : List ℕ) (mask d : ℕ) → 0 < lengthOf ds d → 0 < keptLength ds mask d
-kept-pos ds mask d h =
-    by (keeps mask d)
-    (λ t. let q = kept-length ds mask d t in omega arith)
-    (λ t. let q = summed-length ds mask d t in omega arith)
-
 module _ (ds : List ℕ) (n mask : ℕ) (ok : Countable ds n) where
   pub cells-le : cells ds mask ≤ points ds
   unfolding cells points

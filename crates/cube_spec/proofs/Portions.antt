@@ -9,7 +9,7 @@ use Rattle.cube_spec.specs.Portions.{portionStart, ceiling}
 module _ (D P : ℕ) (some : 0 < P) where
   pub portion-first : portionStart D P 0 ≡ 0
   unfolding portionStart
-  portion-first = rw zero-mul (zero-div P)
+  portion-first = simp (zero-mul, zero-div)
 
   pub portion-last : portionStart D P P ≡ D
   unfolding portionStart

@@ -12,7 +12,7 @@ use plan_spec::types::Plan;
 use rack_spec::types::Counted;
 
 // At each place up to the number of axes: the ways to label the axes from there on, and the transfers of a walk over them.
-// Narrow, since the search for a step hands them down at every turn.
+// Narrow, since what a board holds is found by handing them down at every turn.
 pub struct Tallies {
     pub span: [u32; 9],
     pub sent: [u32; 9],

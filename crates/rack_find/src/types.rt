@@ -1,8 +1,8 @@
 // What the search for a step hands on, and what it finds.
 use cube_choice::types::Choice;
 
-// A plan's numbers in place of the plan, which would be copied at every call: how many axes there are, the slots of the order and of the exponents, and
-// at each place the transfers of a walk over the axes from there on.
+// A plan's numbers in place of the plan and its tallies, which would be copied at every call: how many axes there are, the slots of the order and of the
+// exponents, and at each place the transfers of a walk over the axes from there on.
 pub struct Search {
     pub axes: usize,
     pub order: [u8; 8],

@@ -7,7 +7,7 @@ use Rattle.cube_spec.specs.Ways.{sumList}
 use Rattle.plan_spec.specs.Plans.{count}
 use Rattle.rack_spec.specs.Grids.{Grid, gridOf, extent}
 
--- board b has a point: no portion of its is empty
+-- board b has a point: none of its portions is empty
 abbrev pub HasPoint : Grid → ℕ → Type 0
 HasPoint g b = (d : ℕ) → d < g .axes → 1 ≤ extent g b d
 

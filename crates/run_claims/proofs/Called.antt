@@ -135,12 +135,14 @@ module _ (q : Plan) (sound : Sound (listsOf q)) (some-axes : 1 ≤ length (lists
           let c : p ≡ at = ap (λ (x : Outcome). x .position) e ∙ (unfold taken in refl) in
           let i = none-past (steps (planGrid q)) at f in
           let n = count in
-          rw a (z, omega arith, b, c)
+          let l : at ≡ stepCount (listsOf q) = omega arith in
+          rw a (z, l, b, c)
       go (some m) f e =
           told-next m f z t w p (ap (λ (x : Outcome). x .says) e ∙ (unfold taken in refl)) (ap (λ (x : Outcome). x .position) e ∙ (unfold taken in omega arith)) all
   answered-by (suc k) z t w p e =
       let a : t ≡ refused (suc k) = ap (λ (x : Outcome). x .says) e in
-      rw a (sym z, (λ n. omega arith), ap (λ (x : Outcome). x .work) e, ap (λ (x : Outcome). x .position) e)
+      let n : suc k ≡ 0 → ⊥ = λ e. omega arith in
+      rw a (sym z, n, ap (λ (x : Outcome). x .work) e, ap (λ (x : Outcome). x .position) e)
 
 -- ---- the claim, on "one plan that the planner returned": what its callers learned with refusal 0
 

@@ -13,11 +13,11 @@ use Rattle.cube_spec.specs.Boxes.{pick}
 use Rattle.plan_spec.specs.Plans.{Sound, moved, boardCount, stepCount, listsOf}
 use Rattle.plan_spec.specs.declared.types.Plan.{Plan}
 use Rattle.rack_spec.specs.Grids.{Grid, gridOf}
-use Rattle.rack_spec.specs.Steps.{TreeStep, expand, transfer, finish, steps}
-use Rattle.rack_spec.specs.Answers.{done, refused, telling, reportedBy}
+use Rattle.rack_spec.specs.Steps.{TreeStep, steps}
+use Rattle.rack_spec.specs.Answers.{reportedBy}
 use Rattle.rack_spec.specs.Held.{held}
 use Rattle.rack_spec.proofs.Claim as Claim
-use Rattle.rack_spec.proofs.Claim.{answers, moves, none-past}
+use Rattle.rack_spec.proofs.Claim.{answers, moves}
 use Rattle.run_spec.specs.Entries.{Outcome, taken, stepOr, stepRefusal, stepping}
 
 -- what a call is lent
@@ -59,24 +59,6 @@ module _ (q : Plan) (c : Lent) (at : ℕ) where
       go : (n : ℕ) → Call (stepOr n g (c .array) (c .work) at) (eqb n 0)
       go zero = unfold stepOr in (let s = step (getElem? (steps g) at) in record { goes = s .0; tells = s .1 })
       go (suc n) = unfold stepOr in rw (ne-eqb (suc n) 0 (λ z. omega arith)) (record { goes = refl; tells = refl })
-
--- "done is answered at T only"
-never-done : (g : Grid) (m : TreeStep) → telling g m ≡ done → ⊥
-never-done g (expand Y) e = let z : _≡_ {A = ℕ} 0 1 = cc in omega arith
-never-done g (transfer Y s r n) e = let z : _≡_ {A = ℕ} 0 1 = cc in omega arith
-never-done g (finish Y) e = let z : _≡_ {A = ℕ} 0 1 = cc in omega arith
-
-pub done-past : (q : Plan) (array work : List ℤ) (at : ℕ) → stepping q array work at .says ≡ done → length (steps (gridOf (listsOf q))) ≤ at
-unfolding stepping
-done-past q array work at e = go (stepRefusal q (length array) (length work) at) e
-  where
-    step : (o : Option TreeStep) → getElem? (steps (gridOf (listsOf q))) at ≡ o → taken (gridOf (listsOf q)) array work at o .says ≡ done → length (steps (gridOf (listsOf q))) ≤ at
-    step none f e = none-past (steps (gridOf (listsOf q))) at f
-    step (some m) f e = absurd (never-done (gridOf (listsOf q)) m (unfold taken in e))
-
-    go : (n : ℕ) → stepOr n (gridOf (listsOf q)) array work at .says ≡ done → length (steps (gridOf (listsOf q))) ≤ at
-    go zero e = step (getElem? (steps (gridOf (listsOf q))) at) refl (unfold stepOr in e)
-    go (suc n) e = absurd (let f : refused (suc n) ≡ done = (unfold stepOr in e) in let z : _≡_ {A = ℕ} 0 1 = cc in omega arith)
 
 -- the calls as accepted and refused ones
 unfoldable pub accepted : Plan → ℕ → List Lent → List Bool

@@ -1,15 +1,16 @@
 -- Which choice a position shows, and the refusals of viewing.
 use Prim.Native.Nat.{ℕ, zero, suc, _+_, _-_, _*_, _≤_, _<_}
 use mathlib.Core.Path.{_≡_, sym, _∙_, refl, ap}
-use mathlib.Core.Bool.{Bool, true, false, _||_, not}
+use mathlib.Core.Bool.{true, false, _||_, not}
 use mathlib.Core.Option.{Option, none, some}
 use mathlib.Core.List.{List, [], _∷_}
 use native.Mathlib.Omega.{arith}
 use borrow.Author.Tests.{lt-ltb, le-ltb, le-leb, lt-leb, not-true, not-false, eqb-true, eqb-false, ltb-true, ltb-false, leb-true, leb-false}
 use lib.Dec.{eqb, ltb, leb}
-use lib.ListN.{length, getElem?, take, drop}
+use lib.ListN.{length, getElem?}
 use lib.IntN.{ℤ}
-use Rattle.cube_spec.specs.Boxes.{pick}
+use types.Run.{OneOf, miss}
+use denote.Enum.Declared.{tagOf}
 use Rattle.cube_spec.specs.Tree.{next, lastOf}
 use Rattle.cube_spec.proofs.Sums.{by}
 use Rattle.cube_spec.specs.Checks.{check, first}
@@ -17,18 +18,28 @@ use Rattle.cube_spec.proofs.Sets.{Down}
 use Rattle.plan_spec.specs.Plans.{listsOf, stepCount, boardCount}
 use Rattle.plan_spec.specs.Refusals.{planRefusal}
 use Rattle.plan_spec.specs.declared.types.Plan.{Plan}
-use Rattle.rack_spec.specs.Grids.{Grid, Lawful, summed, boards, lead, cells, share, index}
+use Rattle.rack_spec.specs.Grids.{Grid, Lawful, summed, boards, cells, share, index}
 use Rattle.rack_spec.specs.Steps.{TreeStep, expand, transfer, finish, steps}
 use Rattle.rack_spec.specs.Held.{finishedBy, finishedAt}
-use Rattle.rack_spec.specs.Finding.{planGrid, summedIn}
-use Rattle.rack_spec.specs.Answers.{Told, finishes, done, telling, tellingOr, toldAt, pastEnd, noBoard}
+use Rattle.rack_spec.specs.Finding.{planGrid}
+use Rattle.rack_spec.specs.declared.types.Step.{Step}
+use Rattle.rack_spec.specs.declared.types.Step.the-variants as Step′
+use Rattle.rack_spec.proofs.types.Step as step
+use Rattle.rack_spec.specs.Answers.{Told, finishes, done, told, tellingOr, toldAt, pastEnd, noBoard}
 use Rattle.rack_spec.proofs.Told.{finish-told, finish-some}
 use Rattle.rack_spec.proofs.Boards.{cells-fit}
 use Rattle.rack_spec.proofs.Refusing.{plan-due, plan-passed}
 use Rattle.run_spec.specs.Entries.{isNone, workCells, smallArea, noFinish, viewChecks, viewRefusal, viewOf, viewOr, viewing}
-use Rattle.run_spec.specs.Gather.{viewed}
 use Rattle.run_spec.proofs.Moved.{region-room}
 use Rattle.run_spec.specs.Taking.{toldBefore}
+
+-- a step of another variant tells no finish
+pub not-finish : (s : Step) → OneOf (0 ∷ 1 ∷ 3 ∷ 4 ∷ []) (tagOf step.the-type s) → (mask : ℕ) → finishes mask ≡ told s → ⊥
+not-finish (Step′.Expand x) k m e = let z : _≡_ {A = ℕ} 0 1 = cc in omega arith
+not-finish (Step′.Transfer x) k m e = let z : _≡_ {A = ℕ} 0 1 = cc in omega arith
+not-finish (Step′.Finish x) k m e = miss (0 ∷ 1 ∷ 3 ∷ 4 ∷ []) 2 tt k
+not-finish Step′.Done k m e = let z : _≡_ {A = ℕ} 0 1 = cc in omega arith
+not-finish (Step′.Refused x) k m e = let z : _≡_ {A = ℕ} 0 1 = cc in omega arith
 
 module _ (g : Grid) where
   pub before-none : (at : ℕ) → at ≡ 0 → done ≡ toldBefore g at
@@ -135,20 +146,6 @@ module _ (q : Plan) (work : List ℤ) (at b : ℕ) where
     pub shown : viewing q work at b ≡ viewOf (planGrid q) (finishedAt (planGrid q) at) b work
     unfolding viewing viewOr
     shown = rw z refl
-
-    pub shown-none : finishedAt (planGrid q) at ≡ none → [] ≡ viewing q work at b
-    shown-none e = sym (shown ∙ ap (λ o. viewOf (planGrid q) o b work) e)
-
-    module _ (Y : List ℕ) (e : finishedAt (planGrid q) at ≡ some Y) where
-      pub shown-other : lead (planGrid q) Y b ≡ false → [] ≡ viewing q work at b
-      unfolding viewed
-      shown-other t = sym (shown ∙ ap (λ o. viewOf (planGrid q) o b work) e ∙ ap (λ t. pick t (take (cells (planGrid q) Y b) (drop (index (planGrid q) b (lastOf Y) 0) work)) []) t)
-
-      pub shown-lead : lead (planGrid q) Y b ≡ true → (start count end : ℕ) → start ≡ index (planGrid q) b (lastOf Y) 0 → count ≡ cells (planGrid q) Y b → end ≡ start + count → take (end - start) (drop start work) ≡ viewing q work at b
-      unfolding viewed
-      shown-lead t start count end es ec ee =
-          let d : end - start ≡ count = omega arith in
-          rw (d, ec, es) (sym (shown ∙ ap (λ o. viewOf (planGrid q) o b work) e ∙ ap (λ t. pick t (take (cells (planGrid q) Y b) (drop (index (planGrid q) b (lastOf Y) 0) work)) []) t))
 
 -- a finished choice is not the root, and its cells lie within the work area
 pub finished-some : (g : Grid) (at : ℕ) (Y : List ℕ) → finishedAt g at ≡ some Y → 0 < next Y

@@ -3,36 +3,20 @@ use Prim.Native.Nat.{ℕ}
 use mathlib.Core.Path.{_≡_, refl, sym, ap, _∙_}
 use mathlib.Core.Bool.{Bool, true, false}
 use mathlib.Core.Option.{Option, none, some}
-use mathlib.Core.List.{List, [], _∷_}
-use mathlib.Core.Logic.{⊎-elim}
-use native.Mathlib.Omega.{arith}
+use mathlib.Core.List.{List, []}
 use lib.ListN.{length, take, drop}
 use lib.IntN.{ℤ}
-use types.Run.{OneOf}
-use denote.Enum.Declared.{tagOf}
 use Rattle.cube_spec.specs.Boxes.{pick}
 use Rattle.cube_spec.specs.Tree.{lastOf}
 use Rattle.plan_spec.specs.declared.types.Plan.{Plan}
 use Rattle.rack_spec.specs.Grids.{Grid, lead, cells, index}
 use Rattle.rack_spec.specs.Held.{finishedAt}
 use Rattle.rack_spec.specs.Finding.{planGrid}
-use Rattle.rack_spec.specs.Answers.{told, finishes}
-use Rattle.rack_spec.specs.declared.types.Step.{Step}
-use Rattle.rack_spec.specs.declared.types.Step.the-variants as Step′
-use Rattle.rack_spec.proofs.types.Step as step
 use Rattle.run_spec.specs.Entries.{viewRefusal, viewOf, viewing}
 use Rattle.run_spec.specs.Gather.{viewed}
 use Rattle.run_spec.proofs.Shown.{shown}
 use Rattle.run_view.specs.declared.types.Part.{Part}
 use Rattle.run_view.specs.Places.{noPart, partWith, partOf}
-
--- a step of another variant tells no finish
-pub not-finish : (s : Step) → OneOf (0 ∷ 1 ∷ 3 ∷ 4 ∷ []) (tagOf step.the-type s) → (mask : ℕ) → finishes mask ≡ told s → ⊥
-not-finish (Step′.Expand x) k m e = let z : _≡_ {A = ℕ} 0 1 = cc in omega arith
-not-finish (Step′.Transfer x) k m e = let z : _≡_ {A = ℕ} 0 1 = cc in omega arith
-not-finish (Step′.Finish x) k m e = ⊎-elim (λ w. omega arith) (⊎-elim (λ w. omega arith) (⊎-elim (λ w. omega arith) (λ w. omega arith))) k
-not-finish Step′.Done k m e = let z : _≡_ {A = ℕ} 0 1 = cc in omega arith
-not-finish (Step′.Refused x) k m e = let z : _≡_ {A = ℕ} 0 1 = cc in omega arith
 
 module _ (g : Grid) (at b : ℕ) where
   pub part-none : finishedAt g at ≡ none → noPart ≡ partOf g at b

@@ -16,12 +16,7 @@ use Rattle.rack_spec.specs.Grids.{Grid, gridOf, maskOf}
 use Rattle.rack_spec.specs.Finding.{planGrid}
 use Rattle.rack_spec.specs.Steps.{TreeStep, expand, transfer, finish, steps}
 use Rattle.rack_spec.specs.Held.{finishedAt, finishedBy}
-use Rattle.rack_spec.specs.Answers.{Told, finishes, telling, told}
-use Rattle.rack_spec.specs.declared.types.Step.{Step}
-use Rattle.rack_spec.specs.declared.types.Step.the-variants as Step′
-use Rattle.rack_spec.proofs.types.Step as Step-type
-use denote.Enum.Declared as Declared
-use types.Run.{OneOf, miss}
+use Rattle.rack_spec.specs.Answers.{Told, finishes, telling}
 use Rattle.rack_spec.proofs.Counting.{steps-length}
 use Rattle.rack_spec.proofs.Tallied.{lawful}
 use Rattle.run_spec.specs.Memory.{read, stepped, ran}
@@ -36,14 +31,6 @@ use Rattle.report_spec.specs.Text.{text, decimal}
 use Rattle.report_spec.specs.Printed.{fields, signeds, groupLine, groupLines}
 use Rattle.report_spec.proofs.Groups.{passed-over, one-more, printed-there}
 use Rattle.totals_group.specs.Grouped.{Ready, groupsOf, groupsBefore, groupText}
-
--- the cases of the step enum that are no finish
-pub no-finish : (s : Step) → OneOf (0 ∷ 1 ∷ 3 ∷ 4 ∷ []) (Declared.tagOf Step-type.the-type s) → (mask : ℕ) → told s ≡ finishes mask → ⊥
-no-finish (Step′.Expand c) k mask e = let z : _≡_ {A = ℕ} 0 1 = cc in omega arith
-no-finish (Step′.Transfer t) k mask e = let z : _≡_ {A = ℕ} 0 1 = cc in omega arith
-no-finish (Step′.Finish c) k mask e = miss (0 ∷ 1 ∷ 3 ∷ 4 ∷ []) 2 tt k
-no-finish Step′.Done k mask e = let z : _≡_ {A = ℕ} 0 1 = cc in omega arith
-no-finish (Step′.Refused n) k mask e = let z : _≡_ {A = ℕ} 0 1 = cc in omega arith
 
 record Found (l : List TreeStep) (at : ℕ) : Type 0 where
   step : TreeStep

@@ -12,7 +12,7 @@ use Rattle.rack_spec.specs.Grids.{boards, share, index}
 use Rattle.rack_spec.specs.Finding.{planGrid, summedIn}
 use Rattle.rack_spec.specs.Answers.{told}
 use Rattle.rack_spec.proofs.Tallied.{lawful, boards-few}
-use Rattle.run_spec.proofs.Shown.{finished-is, other-none, finished-some, cells-room}
+use Rattle.run_spec.proofs.Shown.{finished-is, other-none, finished-some, cells-room, not-finish}
 use Rattle.run_view.proofs.Placed as placed
 use Rattle.run_view.proofs.viewing.part_of.Statement.{statement}
 use Rattle.run_view.proofs.viewing.part_of.Tie as tie
@@ -26,7 +26,7 @@ returns : tie.Need-returns
 returns c =
     let s = c .before .before in
     let g = planGrid (s .args .plan) in
-    let e = other-none g (s .args .position) _ (c .before .step-before .ensures) (placed.not-finish (c .before .step-before .result) (c .match .keys2)) in
+    let e = other-none g (s .args .position) _ (c .before .step-before .ensures) (not-finish (c .before .step-before .result) (c .match .keys2)) in
     (placed.part-none g (s .args .position) (s .args .board) e, search needs, search needs)
 
 lead-requires : tie.Need-is-lead-requires

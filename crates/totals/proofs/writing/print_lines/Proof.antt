@@ -53,7 +53,7 @@ write-requires c κs =
     let nl = c .before .before .before .before .before .before .next-line in
     let lp = c .before .before .before .before .before .before .before .before .before .before .before in
     let tape = lp .before .before .before .args .tape .now in
-    (nl .ensures .1, line-there tape (lp .loop .lines) (lp .loop .out) (nl .last .1 .1 .1 .1 .1 .1 .1 .0) (nl .result) (nl .ensures .0) (nl .ensures .1) (nl .ensures .2))
+    (omega (arith, nl .ensures .1), line-there tape (lp .loop .lines) (lp .loop .out) (nl .last .1 .1 .1 .1 .1 .1 .1 .0) (nl .result) (nl .ensures .0) (nl .ensures .1) (nl .ensures .2))
 
 same-length-4 : tie.Need-same-length-4 Inv-loop μ-loop
 same-length-4 c = search needs

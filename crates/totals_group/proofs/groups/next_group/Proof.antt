@@ -12,7 +12,8 @@ use Rattle.plan_spec.specs.Accepted.{Accepted}
 use Rattle.plan_spec.proofs.Accepting.{passed-accepted}
 use Rattle.rack_spec.specs.Answers.{told, finishes}
 use Rattle.run_spec.proofs.Refusing.{step-passed}
-use Rattle.totals_group.proofs.Turning.{work-length, all-printed, none-left, moved, turned, nothing-printed, one-printed, group-printed, part-length, no-finish}
+use Rattle.run_spec.proofs.Shown.{not-finish}
+use Rattle.totals_group.proofs.Turning.{work-length, all-printed, none-left, moved, turned, nothing-printed, one-printed, group-printed, part-length}
 use Rattle.totals_group.specs.Grouped.{Ready, groupsOf, groupsBefore, groupText}
 use Rattle.totals_group.proofs.groups.next_group.Statement.{statement}
 use Rattle.totals_group.proofs.groups.next_group.Tie as tie
@@ -78,7 +79,7 @@ loop-again c =
     let lt : lp .loop .position < stepCount (listsOf (s .args .plan)) = omega (arith, i .1, c .before .before .before .before .before .loop-test .taken) in
     let q = s .args .plan in
     let ps = s .args .points .now in
-    (i .0, i .1, turned q (i .0) ps (lp .loop .work) (lp .loop .position) (i .2) lt (told (st .result)) (st .last .1 .1 .1 .0) (st .last .1 .1 .1 .1 .0) (st .ensures), nothing-printed q (i .0) ps (lp .loop .work) (lp .loop .position) (i .2) lt (told (st .result)) (st .last .1 .1 .1 .0) (st .last .1 .1 .1 .1 .0) (st .ensures) (no-finish (st .result) (c .match .keys2)) ∙ i .3, i .4, i .5)
+    (i .0, i .1, turned q (i .0) ps (lp .loop .work) (lp .loop .position) (i .2) lt (told (st .result)) (st .last .1 .1 .1 .0) (st .last .1 .1 .1 .1 .0) (st .ensures), nothing-printed q (i .0) ps (lp .loop .work) (lp .loop .position) (i .2) lt (told (st .result)) (st .last .1 .1 .1 .0) (st .last .1 .1 .1 .1 .0) (st .ensures) (λ m e. not-finish (st .result) (c .match .keys2) m (sym e)) ∙ i .3, i .4, i .5)
 
 -- src/groups.rt:76:9
 put-finished-requires : tie.Need-put-finished-requires Inv-loop μ-loop
