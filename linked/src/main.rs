@@ -13,6 +13,7 @@ mod steps;
 mod tapes;
 mod watched;
 
+use compare::random::Random;
 use std::env;
 use std::process::ExitCode;
 use std::time::Instant;
@@ -70,6 +71,13 @@ pub struct Count {
 }
 
 impl Count {
+    /// Of one part of a comparison, alone and quiet.
+    pub fn of(seed: u64, part: impl FnOnce(&mut Count, &mut Random)) -> Count {
+        let mut count = Count { quiet: true, ..Count::default() };
+        part(&mut count, &mut Random::new(seed));
+        count
+    }
+
     pub fn note(&mut self, same: bool, what: impl FnOnce() -> String) {
         if same {
             self.passed += 1;

@@ -167,28 +167,23 @@ pub fn check(seed: u64, n: u64) -> Count {
 
 /// Random plans alone.
 pub fn requests(seed: u64, n: u64) -> Count {
-    let mut count = Count { quiet: true, ..Count::default() };
-    requested(&mut count, &mut Random::new(seed), n);
-    count
+    Count::of(seed, |count, random| requested(count, random, n))
 }
 
 /// Refusals alone, so many plans damaged.
 pub fn refusals(seed: u64, n: u64) -> Count {
-    let mut count = Count { quiet: true, ..Count::default() };
-    every_refusal(&mut count, &mut Random::new(seed), n);
-    count
+    Count::of(seed, |count, random| every_refusal(count, random, n))
 }
 
 /// Runs alone, as the largest plans have them.
 pub fn runs(seed: u64, n: u64) -> Count {
-    let mut count = Count { quiet: true, ..Count::default() };
-    let random = &mut Random::new(seed);
-    for _ in 0..n {
-        let lengths = small_shape(random);
-        let plan = some_plan(random, &lengths, fitting(&lengths, 3), true);
-        run(&mut count, random, &plan);
-    }
-    count
+    Count::of(seed, |count, random| {
+        for _ in 0..n {
+            let lengths = small_shape(random);
+            let plan = some_plan(random, &lengths, fitting(&lengths, 3), true);
+            run(count, random, &plan);
+        }
+    })
 }
 
 fn requested(count: &mut Count, random: &mut Random, n: u64) {

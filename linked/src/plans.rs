@@ -30,16 +30,12 @@ pub fn check(seed: u64, n: u64) -> Count {
 
 /// Random requests alone.
 pub fn requests(seed: u64, n: u64) -> Count {
-    let mut count = Count { quiet: true, ..Count::default() };
-    requested(&mut count, &mut Random::new(seed), n);
-    count
+    Count::of(seed, |count, random| requested(count, random, n))
 }
 
 /// Refusals alone, up to a p.
 pub fn refusals(seed: u64, highest_p: u64) -> Count {
-    let mut count = Count { quiet: true, ..Count::default() };
-    every_refusal(&mut count, &mut Random::new(seed), highest_p as u8);
-    count
+    Count::of(seed, |count, random| every_refusal(count, random, highest_p as u8))
 }
 
 fn requested(count: &mut Count, random: &mut Random, n: u64) {

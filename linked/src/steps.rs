@@ -119,16 +119,12 @@ pub fn check(seed: u64, n: u64) -> Count {
 
 /// Random plans alone.
 pub fn requests(seed: u64, n: u64) -> Count {
-    let mut count = Count { quiet: true, ..Count::default() };
-    requested(&mut count, &mut Random::new(seed), n);
-    count
+    Count::of(seed, |count, random| requested(count, random, n))
 }
 
 /// Refusals alone, so many plans damaged.
 pub fn refusals(seed: u64, n: u64) -> Count {
-    let mut count = Count { quiet: true, ..Count::default() };
-    every_refusal(&mut count, &mut Random::new(seed), n);
-    count
+    Count::of(seed, |count, random| every_refusal(count, random, n))
 }
 
 fn requested(count: &mut Count, random: &mut Random, n: u64) {

@@ -29,16 +29,14 @@ pub fn check(seed: u64, n: u64) -> Count {
 
 /// Made tapes alone.
 pub fn made(seed: u64, n: u64) -> Count {
-    let mut count = Count { quiet: true, ..Count::default() };
-    (0..n).for_each(|index| expect(&mut count, &make::made(seed, index).tape));
-    count
+    Count::of(seed, |count, _| {
+        (0..n).for_each(|index| expect(count, &make::made(seed, index).tape))
+    })
 }
 
 /// Damaged tapes alone.
 pub fn refusals(seed: u64, n: u64) -> Count {
-    let mut count = Count { quiet: true, ..Count::default() };
-    each_damage(&mut count, &mut Random::new(seed), n);
-    count
+    Count::of(seed, |count, random| each_damage(count, random, n))
 }
 
 fn each_damage(count: &mut Count, random: &mut Random, n: u64) {
