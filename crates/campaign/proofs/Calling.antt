@@ -20,7 +20,7 @@ use Rattle.plan_spec.proofs.Accepting.{padded-length, planning-accepted, planne
 use Rattle.plan_spec.proofs.Answering.{refusal-of, plan-of, prices-of}
 use Rattle.plan_spec.proofs.Demand.{plan-sound}
 use Rattle.cube_spec.proofs.Sums.{by}
-use Rattle.rack_spec.proofs.Refusing.{Numbered, first-due, first-passed}
+use Rattle.cube_spec.proofs.Dues.{Numbered, first-due, first-passed}
 use Rattle.rack_spec.specs.Finding.{planGrid}
 use Rattle.rack_spec.specs.Answers.{Told}
 use Rattle.run_spec.specs.Entries.{Outcome, outcome, stepChecks, stepRefusal, stepping, viewChecks, viewRefusal, viewing, gatherRefusal, gathering}

@@ -14,7 +14,8 @@ use Rattle.plan_spec.specs.Plans.{stepCount, listsOf}
 use Rattle.plan_spec.specs.Refusals.{planChecks, lengthChecks, planRefusal}
 use Rattle.plan_spec.specs.Answers.{pricesOf, pricing}
 use Rattle.rack_spec.specs.Steps.{steps}
-use Rattle.rack_spec.proofs.Refusing.{Numbered, plan-numbered, plan-due, plan-passed, first-due, first-passed}
+use Rattle.cube_spec.proofs.Dues.{Numbered, first-due, first-passed}
+use Rattle.rack_spec.proofs.Refusing.{plan-numbered, plan-due, plan-passed}
 use Rattle.rack_spec.specs.Held as Held
 use Rattle.rack_spec.specs.Finding.{planGrid}
 use Rattle.rack_spec.specs.Answers.{Told, toldAt, pastEnd, heldChecks, heldRefusal, holding, counting}

@@ -13,3 +13,4 @@ pub mod Tables
 pub mod Slots
 pub mod Masks
 pub mod Axes
+pub mod Dues

@@ -1,14 +1,13 @@
 -- The refusals of an entry that takes a plan and more: the plan's come first, and are passed over when none is due.
-use Prim.Native.Nat.{ℕ, zero, suc, _*_, _%_, _^_, _≤_, _<_}
+use Prim.Native.Nat.{ℕ, _*_, _%_, _^_, _≤_, _<_}
 use mathlib.Core.Path.{_≡_, sym, _∙_, refl, ap}
-use mathlib.Core.Bool.{Bool, true, false, _||_}
+use mathlib.Core.Bool.{true, _||_}
 use mathlib.Core.List.{List, [], _∷_, _++_}
 use native.Mathlib.Omega.{arith}
 use borrow.Author.Tests.{lt-ltb, le-ltb, le-leb, lt-leb}
-use lib.Dec.{ltb, leb}
 use Rattle.cube_spec.specs.Limits.{powerLimit}
-use Rattle.cube_spec.specs.Checks.{Check, check, first, Reply, gives, refuses, answered}
-use Rattle.cube_spec.proofs.Sums.{by}
+use Rattle.cube_spec.specs.Checks.{Check, check, first, gives, refuses, answered}
+use Rattle.cube_spec.proofs.Dues.{Numbered, first-due, first-passed}
 use Rattle.plan_spec.specs.Plans.{listsOf, boardCount, stepCount}
 use Rattle.plan_spec.specs.Refusals.{lengthChecks, planChecks, planRefusal}
 use Rattle.plan_spec.specs.declared.types.Plan.{Plan}
@@ -16,24 +15,6 @@ use Rattle.plan_spec.proofs.PricingLaws.{shifted, answer-given, answer-refused}
 use Rattle.rack_spec.specs.Held.{held}
 use Rattle.rack_spec.specs.Finding.{planGrid}
 use Rattle.rack_spec.specs.Answers.{pastEnd, noBoard, heldChecks, heldRefusal, holding}
-
--- no check has the number 0
-abbrev pub Numbered : List Check → Type 0
-Numbered [] = Unit {0}
-Numbered (c ∷ l) = (0 < c .number) × Numbered l
-
-pub first-due : (l r : List Check) → (first l ≡ 0 → ⊥) → first (l ++ r) ≡ first l
-unfolding first
-first-due [] r h = absurd (h refl)
-first-due (c ∷ l) r h = by (c .due) (λ t. rw t refl) (λ t. rw t (first-due l r (rw t at h)))
-
-pub first-passed : (l r : List Check) → Numbered l → first l ≡ 0 → first (l ++ r) ≡ first r
-unfolding first
-first-passed [] r n h = refl
-first-passed (c ∷ l) r n h =
-    by (c .due)
-    (λ t. let z : c .number ≡ 0 = (rw t at h) in absurd (omega (arith, n .0)))
-    (λ t. rw t (first-passed l r (n .1) (rw t at h)))
 
 pub plan-numbered : (q : Plan) → Numbered (planChecks q)
 unfolding planChecks lengthChecks

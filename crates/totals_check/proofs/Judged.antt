@@ -19,7 +19,7 @@ use Rattle.plan_spec.specs.declared.types.Planned.{Planned}
 use Rattle.plan_spec.proofs.Accepting.{planning-accepted, take-padded, padded-length, lists-slotted, planned-accepted}
 use Rattle.plan_spec.proofs.Answering.{too-many, refusal-of, plan-of}
 use Rattle.plan_spec.proofs.Demand.{plan-sound}
-use Rattle.rack_spec.proofs.Refusing.{Numbered, first-due, first-passed}
+use Rattle.cube_spec.proofs.Dues.{Numbered, first-due, first-passed}
 use Rattle.tape_spec.specs.Tapes.{Campaign, campaign}
 use Rattle.tape_spec.specs.declared.types.Scan.{Scan}
 use Rattle.tape_spec.specs.Reading.{orEmpty, scanChecks, scanRefusal, scannedAs, scanning}

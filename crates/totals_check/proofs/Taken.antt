@@ -22,7 +22,7 @@ use Rattle.plan_spec.specs.declared.types.Planned.{Planned}
 use Rattle.plan_spec.proofs.Answering.{refusal-of, plan-of, prices-of}
 use Rattle.plan_spec.proofs.Accepting.{planning-accepted, lists-slotted, slotted-accepted, planned-accepted, or-none}
 use Rattle.plan_spec.proofs.Demand.{plan-sound}
-use Rattle.rack_spec.proofs.Refusing.{Numbered}
+use Rattle.cube_spec.proofs.Dues.{none-both}
 use Rattle.tape_spec.specs.Tapes.{Campaign, campaign}
 use Rattle.tape_spec.specs.Reading.{tooLong, isNone, orEmpty, scanChecks, shortSlice, readingChecks, readingRefusal, filledOr, reading}
 use Rattle.run_spec.specs.Entries.{badArray, workCells}
@@ -35,14 +35,6 @@ use Rattle.totals_check.proofs.Judged.{planning-numbered}
 none-first : (c : Check) (l : List Check) → 0 < c .number → first (c ∷ l) ≡ 0 → (c .due ≡ false) × (first l ≡ 0)
 unfolding first
 none-first c l n h = by (c .due) (λ t. let z : c .number ≡ 0 = (rw t at h) in absurd (omega arith)) (λ t. (t, rw t at h))
-
-none-both : (l r : List Check) → Numbered l → first (l ++ r) ≡ 0 → (first l ≡ 0) × (first r ≡ 0)
-unfolding first
-none-both [] r n h = (refl, h)
-none-both (c ∷ l) r n h =
-    let d = none-first c (l ++ r) (n .0) h in
-    let i = none-both l r (n .1) (d .1) in
-    (rw (d .0) (i .0), i .1)
 
 same : (m n : ℕ) → not (eqb m n) ≡ false → m ≡ n
 same m n e = by (eqb m n) (λ t. eqb-true m n t) (λ t. absurd (let z : true ≡ false = (rw t at e) in let y : _≡_ {A = ℕ} 0 1 = cc in omega arith))
