@@ -10,11 +10,11 @@ use lib.Seq.{take-all}
 use Rattle.cube_spec.specs.Limits.{tapeLimit}
 use Rattle.cube_spec.specs.Checks.{first}
 use Rattle.cube_spec.proofs.Sums.{by}
-use Rattle.tape_spec.specs.Reading.{tooLong}
+use Rattle.tape_spec.specs.Reading.{tooLong, scanChecks}
 use Rattle.report_spec.specs.Printed.{refusedLine, reportOr, programChecks, programRefusal, printedLines, joined, printed}
 
 long-refused : (tape : List ℕ) → tapeLimit < length tape → programRefusal tape ≡ 1
-unfolding programRefusal programChecks first tooLong
+unfolding programRefusal programChecks scanChecks first tooLong
 long-refused tape h = rw (lt-ltb tapeLimit (length tape) h)
 
 long-lines : (tape : List ℕ) → tapeLimit < length tape → printedLines tape ≡ refusedLine 1 ∷ []

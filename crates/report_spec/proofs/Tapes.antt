@@ -42,6 +42,10 @@ two-axes-of-one = record { tape = 65 ∷ 1 ∷ 0 ∷ 65 ∷ 1 ∷ 0 ∷ 66 ∷ 0
 unfoldable pub middle-axis-longest : Case
 middle-axis-longest = record { tape = 65 ∷ 2 ∷ 0 ∷ 65 ∷ 3 ∷ 0 ∷ 65 ∷ 2 ∷ 0 ∷ 66 ∷ 1 ∷ 86 ∷ 255 ∷ 255 ∷ 255 ∷ 255 ∷ 86 ∷ 254 ∷ 255 ∷ 255 ∷ 255 ∷ 86 ∷ 253 ∷ 255 ∷ 255 ∷ 255 ∷ 86 ∷ 252 ∷ 255 ∷ 255 ∷ 255 ∷ 86 ∷ 251 ∷ 255 ∷ 255 ∷ 255 ∷ 86 ∷ 250 ∷ 255 ∷ 255 ∷ 255 ∷ 86 ∷ 249 ∷ 255 ∷ 255 ∷ 255 ∷ 86 ∷ 248 ∷ 255 ∷ 255 ∷ 255 ∷ 86 ∷ 247 ∷ 255 ∷ 255 ∷ 255 ∷ 86 ∷ 10 ∷ 0 ∷ 0 ∷ 0 ∷ 86 ∷ 11 ∷ 0 ∷ 0 ∷ 0 ∷ 86 ∷ 244 ∷ 255 ∷ 255 ∷ 255 ∷ 69 ∷ []; output = text "plan 3 1 4 52 12\ndim 1 3 1\ndim 0 2 0\ndim 2 2 0\ngroup 3 -3 -7 -11 -15 1 -1\ngroup 2 -18 -6 -12\ngroup 6 -8 -10 -12 6 6 -18\ngroup 1 -21 -15\ngroup 0 -36\ngroup 4 -14 -22\ngroup 5 -9 -12 -5 -10\nend 7\n" }
 
+-- lengths 2, 3, p 1: points by a 4D, a 52, a 4B, a 4D and a 56
+unfoldable pub readings-of-all-kinds : Case
+readings-of-all-kinds = record { tape = 65 ∷ 2 ∷ 0 ∷ 65 ∷ 3 ∷ 0 ∷ 66 ∷ 1 ∷ 77 ∷ 0 ∷ 0 ∷ 192 ∷ 62 ∷ 82 ∷ 2 ∷ 0 ∷ 249 ∷ 255 ∷ 255 ∷ 255 ∷ 75 ∷ 0 ∷ 0 ∷ 128 ∷ 188 ∷ 77 ∷ 215 ∷ 163 ∷ 128 ∷ 191 ∷ 86 ∷ 5 ∷ 0 ∷ 0 ∷ 0 ∷ 69 ∷ []; output = text "plan 2 1 2 14 4\ndim 1 3 1\ndim 0 2 0\ngroup 2 -1524 -107 -2\ngroup 0 -1633\ngroup 1 24 -1657\nend 3\n" }
+
 -- refused 2: no 45
 unfoldable pub no-end : Case
 no-end = record { tape = 65 ∷ 2 ∷ 0 ∷ 66 ∷ 1 ∷ 86 ∷ 1 ∷ 0 ∷ 0 ∷ 0 ∷ 86 ∷ 2 ∷ 0 ∷ 0 ∷ 0 ∷ []; output = text "refused 2\n" }
@@ -103,8 +107,8 @@ unfoldable pub points-before-limit : Case
 points-before-limit = record { tape = 65 ∷ 2 ∷ 0 ∷ 66 ∷ 0 ∷ 82 ∷ 39 ∷ 35 ∷ 1 ∷ 0 ∷ 0 ∷ 0 ∷ 82 ∷ 1 ∷ 0 ∷ 2 ∷ 0 ∷ 0 ∷ 0 ∷ 69 ∷ []; output = text "refused 10\n" }
 
 unfoldable pub cases : List Case
-unfolding longer-axis-second one-axis three-axes lowest-points both-axes-split two-axes-of-one middle-axis-longest no-end no-axes zero-length too-many-points high-p too-many-boards point-missing past-the-program form-before-length axes-before-length length-before-product product-before-p p-before-boards boards-before-points points-before-limit
-cases = longer-axis-second ∷ one-axis ∷ three-axes ∷ lowest-points ∷ both-axes-split ∷ two-axes-of-one ∷ middle-axis-longest ∷ no-end ∷ no-axes ∷ zero-length ∷ too-many-points ∷ high-p ∷ too-many-boards ∷ point-missing ∷ past-the-program ∷ form-before-length ∷ axes-before-length ∷ length-before-product ∷ product-before-p ∷ p-before-boards ∷ boards-before-points ∷ points-before-limit ∷ []
+unfolding longer-axis-second one-axis three-axes lowest-points both-axes-split two-axes-of-one middle-axis-longest readings-of-all-kinds no-end no-axes zero-length too-many-points high-p too-many-boards point-missing past-the-program form-before-length axes-before-length length-before-product product-before-p p-before-boards boards-before-points points-before-limit
+cases = longer-axis-second ∷ one-axis ∷ three-axes ∷ lowest-points ∷ both-axes-split ∷ two-axes-of-one ∷ middle-axis-longest ∷ readings-of-all-kinds ∷ no-end ∷ no-axes ∷ zero-length ∷ too-many-points ∷ high-p ∷ too-many-boards ∷ point-missing ∷ past-the-program ∷ form-before-length ∷ axes-before-length ∷ length-before-product ∷ product-before-p ∷ p-before-boards ∷ boards-before-points ∷ points-before-limit ∷ []
 
 -- taken: 8192 points
 unfoldable pub most-points : Limit
@@ -138,6 +142,30 @@ longest-tape = record { tape = replicate 65536 0; refusal = 2 }
 unfoldable pub one-byte-more : Limit
 one-byte-more = record { tape = replicate 65537 0; refusal = 1 }
 
+-- refused 14: an infinite reading
+unfoldable pub infinite-reading : Limit
+infinite-reading = record { tape = 65 ∷ 2 ∷ 0 ∷ 66 ∷ 1 ∷ 86 ∷ 1 ∷ 0 ∷ 0 ∷ 0 ∷ 77 ∷ 0 ∷ 0 ∷ 128 ∷ 255 ∷ 69 ∷ []; refusal = 14 }
+
+-- refused 15: the first number of kilometres past the range
+unfoldable pub far-reading : Limit
+far-reading = record { tape = 65 ∷ 2 ∷ 0 ∷ 66 ∷ 1 ∷ 86 ∷ 1 ∷ 0 ∷ 0 ∷ 0 ∷ 75 ∷ 173 ∷ 197 ∷ 167 ∷ 70 ∷ 69 ∷ []; refusal = 15 }
+
+-- refused 14: an infinite reading, and one past the range after it
+unfoldable pub infinite-before-far : Limit
+infinite-before-far = record { tape = 65 ∷ 2 ∷ 0 ∷ 66 ∷ 1 ∷ 77 ∷ 0 ∷ 0 ∷ 128 ∷ 255 ∷ 75 ∷ 173 ∷ 197 ∷ 167 ∷ 70 ∷ 69 ∷ []; refusal = 14 }
+
+-- refused 15: a reading past the range, and an infinite one after it
+unfoldable pub far-before-infinite : Limit
+far-before-infinite = record { tape = 65 ∷ 2 ∷ 0 ∷ 66 ∷ 1 ∷ 75 ∷ 173 ∷ 197 ∷ 167 ∷ 70 ∷ 77 ∷ 0 ∷ 0 ∷ 128 ∷ 255 ∷ 69 ∷ []; refusal = 15 }
+
+-- refused 2: an infinite reading, and a 52 with count 0 after it
+unfoldable pub form-before-reading : Limit
+form-before-reading = record { tape = 65 ∷ 2 ∷ 0 ∷ 66 ∷ 1 ∷ 77 ∷ 0 ∷ 0 ∷ 128 ∷ 255 ∷ 82 ∷ 0 ∷ 0 ∷ 1 ∷ 0 ∷ 0 ∷ 0 ∷ 69 ∷ []; refusal = 2 }
+
+-- refused 14: an infinite reading, and a length of 0
+unfoldable pub reading-before-length : Limit
+reading-before-length = record { tape = 65 ∷ 0 ∷ 0 ∷ 66 ∷ 1 ∷ 77 ∷ 0 ∷ 0 ∷ 128 ∷ 255 ∷ 69 ∷ []; refusal = 14 }
+
 unfoldable pub limits : List Limit
-unfolding most-points one-point-more most-cells one-cell-more most-shares one-cell-a-share-more longest-tape one-byte-more
-limits = most-points ∷ one-point-more ∷ most-cells ∷ one-cell-more ∷ most-shares ∷ one-cell-a-share-more ∷ longest-tape ∷ one-byte-more ∷ []
+unfolding most-points one-point-more most-cells one-cell-more most-shares one-cell-a-share-more longest-tape one-byte-more infinite-reading far-reading infinite-before-far far-before-infinite form-before-reading reading-before-length
+limits = most-points ∷ one-point-more ∷ most-cells ∷ one-cell-more ∷ most-shares ∷ one-cell-a-share-more ∷ longest-tape ∷ one-byte-more ∷ infinite-reading ∷ far-reading ∷ infinite-before-far ∷ far-before-infinite ∷ form-before-reading ∷ reading-before-length ∷ []

@@ -1,26 +1,26 @@
 -- The printed output of the program, as a function from the tape's bytes to the bytes printed.
-use Prim.Native.Nat.{ℕ, zero, suc, _+_, _*_}
-use mathlib.Core.Bool.{Bool, true, false, _||_, not}
-use mathlib.Core.Option.{Option, none, some}
+use Prim.Native.Nat.{ℕ, zero, suc, _+_}
+use mathlib.Core.Bool.{Bool, _||_}
+use mathlib.Core.Option.{Option}
 use mathlib.Core.List.{List, [], _∷_, _++_}
-use lib.Dec.{eqb, ltb}
+use lib.Dec.{ltb}
 use lib.ListN.{length, getD}
-use lib.IntN.{ℤ, pos}
+use lib.IntN.{ℤ}
 use Rattle.cube_spec.specs.Limits.{programLimit}
 use Rattle.cube_spec.specs.Choices.{totals}
 use Rattle.cube_spec.specs.Checks.{Check, check, first}
 use Rattle.plan_spec.specs.Plans.{PlanLists, axisAt, lengthAt, exponentAt, moved, added, shareSize}
 use Rattle.plan_spec.specs.Rule.{planOf}
 use Rattle.plan_spec.specs.Refusals.{planningChecks}
-use Rattle.rack_spec.specs.Grids.{Grid, gridOf, maskOf}
+use Rattle.rack_spec.specs.Grids.{gridOf, maskOf}
 use Rattle.rack_spec.specs.Steps.{TreeStep, expand, transfer, finish, steps}
 use Rattle.run_spec.specs.Entries.{badArray, workCells}
 use Rattle.run_spec.specs.Memory.{read}
 use Rattle.tape_spec.specs.Tapes.{Campaign, campaign}
-use Rattle.tape_spec.specs.Reading.{tooLong, isNone, orEmpty}
+use Rattle.tape_spec.specs.Reading.{orEmpty, scanChecks}
 use Rattle.report_spec.specs.Text.{text, decimal, signed}
 
--- ---- the refusals of the program: 1 to 7, 10, 11
+-- ---- the refusals of the program: 1, 2, then 14 or 15 by the first bad reading, 3 to 7, 10, 11
 
 -- the planner's plan of a campaign
 abbrev pub planFor : Campaign → PlanLists
@@ -33,7 +33,7 @@ tooLarge c = ltb programLimit (length (c .points)) || ltb programLimit (workCell
 unfoldable pub programChecks : List ℕ → Option Campaign → List Check
 programChecks tape o =
     let c = orEmpty o in
-    check 1 (tooLong tape) ∷ check 2 (isNone o) ∷ (planningChecks (c .lengths) (c .p) ++ (check 10 (badArray (planFor c) (length (c .points))) ∷ check 11 (tooLarge c) ∷ []))
+    scanChecks tape ++ (planningChecks (c .lengths) (c .p) ++ (check 10 (badArray (planFor c) (length (c .points))) ∷ check 11 (tooLarge c) ∷ []))
 
 unfoldable pub programRefusal : List ℕ → ℕ
 programRefusal tape = first (programChecks tape (campaign tape))

@@ -1,5 +1,7 @@
 // Reading a tape: a lent slice is filled with its points, once the scan has judged it.
 use tape_command::decode;
+use tape_reading::point_of;
+use tape_reading::reading_of;
 use tape_scan::scan;
 use tape_spec::types::Command;
 ghost use mathlib.Core.Path.{_≡_};
@@ -42,8 +44,13 @@ fn store(tape: &[u8], slice: &mut [i32])
     loop {
         match decode(tape, at) {
             Command::Points(n, v, next) => {
-                put_points(slice, done, n as usize, v);
-                done += n as usize;
+                put_points(slice, done, n, v);
+                done += n;
+                at = next;
+            }
+            Command::Float(command, bits, next) => {
+                slice[done] = point_of(reading_of(command, bits));
+                done += 1;
                 at = next;
             }
             Command::Axis(_, next) => at = next,
@@ -53,7 +60,7 @@ fn store(tape: &[u8], slice: &mut [i32])
     }
 }
 
-// Puts the points of a tape at the start of a slice, once the form and the number of points are judged.
+// Puts the points of a tape at the start of a slice, once its form, its readings and the number of points are judged.
 pub fn fill(tape: &[u8], slice: &mut [i32]) -> u8
     ensures { λ r. ⌜ (r ≡ readingRefusal (now (tape .entry)) (length (now (slice .entry))))
         × (now (slice .exit) ≡ reading (now (tape .entry)) (now (slice .entry))) ⌝ }

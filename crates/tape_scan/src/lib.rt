@@ -1,15 +1,20 @@
-// The scan of a tape: its form is judged, and what it holds is counted.
+// The scan of a tape: in one pass its form and its readings are judged, and what it holds is counted.
 use tape_command::decode;
+use tape_reading::refusal_of;
 use tape_spec::types::Command;
 use tape_spec::types::Count;
 use tape_spec::types::Scan;
 ghost use mathlib.Core.Path.{_≡_};
 ghost use mathlib.Core.Option.{none};
 ghost use Prim.Native.Nat.{_≤_};
+ghost use lib.Dec.{eqb};
 ghost use lib.ListN.{length, drop, set};
+ghost use Rattle.cube_spec.specs.Boxes.{pick};
 ghost use Rattle.cube_spec.specs.Limits.{tapeLimit};
-ghost use Rattle.tape_spec.specs.Decoding.{pointsIn, counted};
+ghost use Rattle.tape_reading.specs.Readings.{readingOf, centimetresOf, refusalIn};
+ghost use Rattle.tape_spec.specs.Tapes.{commands};
 ghost use Rattle.tape_spec.specs.Reading.{orEmpty, scannedAs, scanning};
+ghost use Rattle.tape_spec.specs.Decoding.{counted};
 
 // A refusal with nothing but zeros.
 fn refused(refusal: u8) -> Scan
@@ -36,12 +41,23 @@ fn put(lengths: [u32; 8], i: usize, d: u16) -> [u32; 8]
     changed
 }
 
-// Counts the points from a position to the end of a tape.
+// The first refusal: the one that there was, or else the reading's.
+fn sooner(bad: u8, command: u8, bits: u32) -> u8
+    ensures { λ r. ⌜ r ≡ pick (eqb bad 0) (refusalIn (centimetresOf (readingOf command bits))) bad ⌝ }
+{
+    if bad == 0 {
+        return refusal_of(command, bits);
+    }
+    bad
+}
+
+// Counts the points from a position to the end of a tape, and remembers the first refusal of a reading.
 fn count(tape: &[u8], start: usize) -> Count
     requires { ⌜ length (now tape) ≤ tapeLimit ⌝ }
-    ensures { λ r. ⌜ r ≡ counted (pointsIn (drop start (now (tape .entry)))) ⌝ }
+    ensures { λ r. ⌜ r ≡ counted 0 0 (commands (drop start (now (tape .entry)))) ⌝ }
 {
     let mut points: u64 = 0;
+    let mut bad: u8 = 0;
     let mut at = start;
     loop {
         match decode(tape, at) {
@@ -49,18 +65,24 @@ fn count(tape: &[u8], start: usize) -> Count
                 points += n as u64;
                 at = next;
             }
+            Command::Float(command, bits, next) => {
+                points += 1;
+                let found = sooner(bad, command, bits);
+                bad = found;
+                at = next;
+            }
             Command::End(next) => {
                 if next < tape.len() {
                     return Count::Broken;
                 }
-                return Count::Whole(points);
+                return Count::Whole(points, bad);
             }
             _ => return Count::Broken,
         }
     }
 }
 
-// Judges a tape's form and counts what it holds, in one pass.
+// Judges a tape's form and readings and counts what it holds, in one pass.
 pub fn scan(tape: &[u8]) -> Scan
     ensures { λ r. ⌜ r ≡ scanning (now (tape .entry)) ⌝ }
 {
@@ -79,9 +101,12 @@ pub fn scan(tape: &[u8]) -> Scan
                 at = next;
             }
             Command::Boards(p, next) => {
-                let Count::Whole(points) = count(tape, next) else {
+                let Count::Whole(points, bad) = count(tape, next) else {
                     return refused(2);
                 };
+                if bad != 0 {
+                    return refused(bad);
+                }
                 return Scan {
                     refusal: 0,
                     axes: axes as u32,

@@ -1,81 +1,30 @@
--- Laws of `command` and of decoding: the bytes that follow a command, and the command that a byte begins.
+-- Laws of decoding: the command at a position is the next of the tape's commands, and the command that a byte begins.
 use Prim.Native.Nat.{ℕ, zero, suc, _+_, _-_, _≤_, _<_}
 use mathlib.Core.Path.{_≡_, refl, sym, ap, _∙_}
-use mathlib.Core.Bool.{Bool, true, false}
+use mathlib.Core.Logic.{_⊎_, inl, inr}
+use mathlib.Core.Bool.{true, false}
+use mathlib.Core.Option.{Option, none, some}
 use mathlib.Core.List.{List, [], _∷_}
 use native.Mathlib.Omega.{arith}
-use native.Mathlib.Nat.{add-zero}
 use native.Mathlib.Numerals.{add-one}
-use borrow.Author.Tests.{ne-eqb, ltb-true, ltb-false}
+use borrow.Author.Tests.{eqb-true, ne-eqb, ltb-true, ltb-false, lt-ltb, le-ltb}
 use lib.Dec.{eqb, ltb}
-use lib.IntN.{ℤ}
-use lib.ListN.{length, getD, drop, length-drop, drop-of-length-le}
-use lib.Seq.{drop-cons, drop-drop, getD-drop}
+use lib.ListN.{length, getD, drop, take, length-drop, drop-of-length-le}
+use lib.Seq.{drop-cons, drop-drop}
 use Rattle.cube_spec.specs.Bytes.{little}
-use Rattle.cube_spec.specs.Boxes.{pick}
-use Rattle.tape_spec.specs.declared.types.Command.{Command}
-use Rattle.tape_spec.specs.declared.types.Command.the-variants.{Axis, Boards, Points, End, Bad}
+use Rattle.cube_spec.proofs.Sums.{by}
+use Rattle.cube_spec.proofs.Naturals.{clash}
+use Rattle.tape_reading.specs.Readings.{readingOf}
 use Rattle.tape_spec.specs.Tapes as Tapes
-use Rattle.tape_spec.specs.Tapes.{axis, boards, points, end, bad, one, two, four, repeated, point, command}
-use Rattle.tape_spec.specs.Decoding.{told, decoding}
+use Rattle.tape_spec.specs.Tapes.{axis, boards, points, end, First, found, bad, operand, single, repeated, firstOf, prepend, firstThen, commands}
+use Rattle.tape_spec.specs.Decoding.{placed, nothing, told, decoding}
+use Rattle.tape_spec.proofs.Operands.{one}
+use Rattle.tape_spec.proofs.Commands.{Suffix, Follows, past, no-rest, follows, commands-none, commands-next}
 
--- ---- the bytes that follow a command
+pub impossible : {A : Type 0} → _≡_ {A = ℕ} 0 1 → A
+impossible e = absurd (omega arith)
 
--- r is l without its first bytes, at least one
-pub record Suffix (l r : List ℕ) : Type 0 where
-  pub k : ℕ
-  pub some : 0 < k
-  pub within : k ≤ length l
-  pub is : r ≡ drop k l
-
-tail : {l s : List ℕ} {a : ℕ} → Suffix l (a ∷ s) → Suffix l s
-tail {l} {s} {a} p =
-    let n : suc (length s) ≡ length l - p .k = ap length (p .is) ∙ length-drop (p .k) l in
-    record { k = p .k + 1; some = omega arith; within = omega arith; is = ap (drop 1) (p .is) ∙ drop-drop 1 (p .k) l }
-
--- what follows the command c that l begins with
-pub data Follows (l : List ℕ) : Tapes.Command → Type 0 where
-  past-axis : {d : ℕ} {r : List ℕ} → Suffix l r → Follows l (axis d r)
-  past-boards : {p : ℕ} {r : List ℕ} → Suffix l r → Follows l (boards p r)
-  past-points : {n : ℕ} {v : ℤ} {r : List ℕ} → Suffix l r → Follows l (points n v r)
-  past-end : {r : List ℕ} → Suffix l r → Follows l (end r)
-  no-rest : Follows l bad
-
-either : {l : List ℕ} {a b : Tapes.Command} (t : Bool) → Follows l a → Follows l b → Follows l (pick t a b)
-either true p q = p
-either false p q = q
-
-after-one : {l : List ℕ} (r : List ℕ) (k : ℕ → List ℕ → Tapes.Command) → Suffix l r
-    → ((a : ℕ) (s : List ℕ) → Suffix l s → Follows l (k a s)) → Follows l (one r k)
-after-one [] k p q = no-rest
-after-one (a ∷ s) k p q = q a s (tail p)
-
-after-two : {l : List ℕ} (r : List ℕ) (k : ℕ → ℕ → List ℕ → Tapes.Command) → Suffix l r
-    → ((a b : ℕ) (s : List ℕ) → Suffix l s → Follows l (k a b s)) → Follows l (two r k)
-after-two [] k p q = no-rest
-after-two (a ∷ r) k p q = after-one r (k a) (tail p) (λ b s. q a b s)
-
-after-four : {l : List ℕ} (r : List ℕ) (k : ℕ → ℕ → ℕ → ℕ → List ℕ → Tapes.Command) → Suffix l r
-    → ((a b c d : ℕ) (s : List ℕ) → Suffix l s → Follows l (k a b c d s)) → Follows l (four r k)
-after-four r k p q = after-two r _ p (λ a b s h. after-two s _ h (λ c d t. q a b c d t))
-
-after-repeated : {l : List ℕ} (n : ℕ) (v : ℤ) (r : List ℕ) → Suffix l r → Follows l (repeated n v r)
-unfolding repeated
-after-repeated zero v r p = no-rest
-after-repeated (suc n) v r p = past-points p
-
-pub follows : (l : List ℕ) → Follows l (command l)
-unfolding command
-follows [] = no-rest
-follows (c ∷ r) =
-    let p : Suffix (c ∷ r) r = record { k = 1; some = omega arith; within = omega arith; is = refl } in
-    either (eqb c 0x41) (after-two r _ p (λ a b s h. past-axis h))
-    (either (eqb c 0x42) (after-one r _ p (λ a s h. past-boards h))
-    (either (eqb c 0x56) (after-four r _ p (λ a b d e s h. past-points h))
-    (either (eqb c 0x52) (after-two r _ p (λ a b s h. after-four s _ h (λ d e f g t i. after-repeated _ _ t i)))
-    (either (eqb c 0x45) (past-end p) no-rest))))
-
--- ---- decoding says what the command is, and where the bytes after it begin
+-- ---- what decoding says of the tape's commands
 
 module _ (tape : List ℕ) (at : ℕ) {r : List ℕ} (p : Suffix (drop at tape) r) where
   place : length tape - length r ≡ at + p .k
@@ -89,210 +38,189 @@ module _ (tape : List ℕ) (at : ℕ) {r : List ℕ} (p : Suffix (drop at tape) 
   rest-at : drop (length tape - length r) tape ≡ r
   rest-at = rw place (sym (p .is ∙ drop-drop (p .k) at tape))
 
--- the paper's command for an answer about a tape
-abbrev pub meant : List ℕ → Command → Tapes.Command
-meant tape (Axis d n) = axis d (drop n tape)
-meant tape (Boards p n) = boards p (drop n tape)
-meant tape (Points k v n) = points k v (drop n tape)
-meant tape (End n) = end (drop n tape)
-meant tape Bad = bad
+-- the command, the position moved on within the tape, and the commands from here on being it and those from there on
+pub record Next (tape : List ℕ) (at : ℕ) (c : Tapes.Command) (n : ℕ) : Type 0 where
+  pub more : at < n
+  pub within : n ≤ length tape
+  pub is : commands (drop at tape) ≡ prepend c (commands (drop n tape))
 
-abbrev pub Moves : ℕ → ℕ → Command → Type 0
-Moves at m (Axis d n) = (at < n) × (n ≤ m)
-Moves at m (Boards p n) = (at < n) × (n ≤ m)
-Moves at m (Points k v n) = (at < n) × (n ≤ m)
-Moves at m (End n) = (at < n) × (n ≤ m)
-Moves at m Bad = Unit
+module _ (tape : List ℕ) (at : ℕ) where
+  pub tells : {c : Tapes.Command} {n : ℕ} → placed c n ≡ decoding tape at → Next tape at c n
+  unfolding decoding told firstThen
+  tells {c} {n} e = go (firstOf (drop at tape)) refl (follows (drop at tape)) e
+    where
+      go : (f : First) → firstOf (drop at tape) ≡ f → Follows (drop at tape) f → placed c n ≡ told (length tape) f → Next tape at c n
+      go (found d r) q (past p) h =
+          let z = p .some in
+          let w = p .within in
+          let l = length-drop at tape in
+          let x = place tape at p in
+          let y = commands-next (drop at tape) (omega arith) in
+          let i : c ≡ d = cc in
+          let j : n ≡ length tape - length r = cc in
+          rw (i, j) (record { more = omega arith; within = omega arith; is = y ∙ rw (q, rest-at tape at p) })
+      go bad q no-rest h = impossible (cc)
 
-means : (tape : List ℕ) (at : ℕ) → meant tape (decoding tape at) ≡ command (drop at tape)
-unfolding decoding told
-means tape at = go (command (drop at tape)) (follows (drop at tape))
+  pub tells-none : nothing ≡ decoding tape at → firstThen (firstOf (drop at tape)) commands ≡ none
+  unfolding decoding told firstThen
+  tells-none e = go (firstOf (drop at tape)) e
+    where
+      go : (f : First) → nothing ≡ told (length tape) f → firstThen f commands ≡ none
+      go (found c r) h = impossible (cc)
+      go bad h = refl
+
+-- where bytes are left there is a command left, or they are no commands
+pub some-left : (l : List ℕ) (P : Option (List Tapes.Command) → Type 0) → 0 < length l → P none → ((c : Tapes.Command) (cs : List Tapes.Command) → P (some (c ∷ cs))) → P (commands l)
+unfolding firstThen
+some-left l P h x y = rw (commands-next l h) (go (firstOf l))
   where
-    go : (c : Tapes.Command) → Follows (drop at tape) c → meant tape (told (length tape) c) ≡ c
-    go (axis d r) (past-axis p) = ap (axis d) (rest-at tape at p)
-    go (boards q r) (past-boards p) = ap (boards q) (rest-at tape at p)
-    go (points n v r) (past-points p) = ap (points n v) (rest-at tape at p)
-    go (end r) (past-end p) = ap end (rest-at tape at p)
-    go bad no-rest = refl
+    more : (c : Tapes.Command) (o : Option (List Tapes.Command)) → P (prepend c o)
+    more c none = x
+    more c (some cs) = y c cs
 
-moves : (tape : List ℕ) (at : ℕ) → Moves at (length tape) (decoding tape at)
-unfolding decoding told
-moves tape at = go (command (drop at tape)) (follows (drop at tape))
-  where
-    after : {r : List ℕ} → Suffix (drop at tape) r → (at < length tape - length r) × (length tape - length r ≤ length tape)
-    after p = let e = place tape at p in let z = p .some in (omega arith, omega arith)
+    go : (f : First) → P (firstThen f commands)
+    go (found c r) = more c (commands r)
+    go bad = x
 
-    go : (c : Tapes.Command) → Follows (drop at tape) c → Moves at (length tape) (told (length tape) c)
-    go (axis d r) (past-axis p) = after p
-    go (boards q r) (past-boards p) = after p
-    go (points n v r) (past-points p) = after p
-    go (end r) (past-end p) = after p
-    go bad no-rest = tt
+-- where no command begins there are none left, or the bytes are no commands
+pub bad-left : (tape : List ℕ) (at : ℕ) (P : Option (List Tapes.Command) → Type 0) → nothing ≡ decoding tape at → P none → P (some []) → P (commands (drop at tape))
+bad-left tape at P e x y =
+    let h : firstThen (firstOf (drop at tape)) commands ≡ none = tells-none tape at e in
+    by (ltb at (length tape))
+    (λ t. let l = ltb-true at (length tape) t in let d = length-drop at tape in rw (commands-next (drop at tape) (omega arith), h) x)
+    (λ t. rw (drop-of-length-le tape (ltb-false at (length tape) t), commands-none) y)
 
--- the command at a position, from the answer
-pub next : (tape : List ℕ) (at : ℕ) {c : Command} → c ≡ decoding tape at → command (drop at tape) ≡ meant tape c
-next tape at e = sym (means tape at) ∙ ap (meant tape) (sym e)
+-- ---- the command that begins with a byte
 
--- the position moves on, and stays within the tape
-pub moved : (tape : List ℕ) (at : ℕ) {c : Command} → c ≡ decoding tape at → Moves at (length tape) c
-moved tape at e = rw e (moves tape at)
+-- operands at a position of a tape
+module _ (l : List ℕ) (n at : ℕ) (k : ℕ → List ℕ → First) where
+  cut : at ≤ length l → length l < at + n → operand n (drop at l) k ≡ bad
+  unfolding operand
+  cut o h = let d = length-drop at l in rw (lt-ltb (length (drop at l)) n (omega arith))
+
+  whole : at + n ≤ length l → operand n (drop at l) k ≡ k (little (take n (drop at l))) (drop (at + n) l)
+  unfolding operand
+  whole h = let d = length-drop at l in rw (le-ltb (length (drop at l)) n (omega arith), drop-drop n at l)
+
+-- the three commands of a single reading
+pub by-single : (P : ℕ → Type 0) (c : ℕ) → single c ≡ true → P 0x56 → P 0x4D → P 0x4B → P c
+unfolding single
+by-single P c t x y z =
+    by (eqb c 0x56) (λ a. rw (eqb-true c 0x56 a) x)
+    (λ a. by (eqb c 0x4D) (λ b. rw (eqb-true c 0x4D b) y)
+    (λ b. by (eqb c 0x4B) (λ d. rw (eqb-true c 0x4B d) z)
+    (λ d. clash (sym t ∙ rw (a, b, d)))))
 
 -- the position at which what is left begins
 back : (l : List ℕ) (k n : ℕ) → k ≡ n → n ≤ length l → length l - length (drop k l) ≡ n
 back l k n e h = let d = length-drop k l in omega arith
 
--- ---- operands
-
-module _ (k : ℕ → List ℕ → Tapes.Command) where
-  one-short : (r : List ℕ) → length r < 1 → one r k ≡ bad
-  one-short [] h = refl
-  one-short (a ∷ r) h = absurd (omega arith)
-
-  one-whole : (r : List ℕ) → 1 ≤ length r → one r k ≡ k (getD r 0 0) (drop 1 r)
-  one-whole [] h = absurd (omega arith)
-  one-whole (a ∷ r) h = refl
-
-module _ (k : ℕ → ℕ → List ℕ → Tapes.Command) where
-  two-short : (r : List ℕ) → length r < 2 → two r k ≡ bad
-  two-short [] h = refl
-  two-short (a ∷ r) h = one-short (k a) r (omega arith)
-
-  two-whole : (r : List ℕ) → 2 ≤ length r → two r k ≡ k (getD r 0 0) (getD r 1 0) (drop 2 r)
-  two-whole [] h = absurd (omega arith)
-  two-whole (a ∷ r) h = one-whole (k a) r (omega arith)
-
-module _ (k : ℕ → ℕ → ℕ → ℕ → List ℕ → Tapes.Command) where
-  four-short : (r : List ℕ) → length r < 4 → four r k ≡ bad
-  four-short [] h = refl
-  four-short (a ∷ []) h = refl
-  four-short (a ∷ b ∷ r) h = two-short (k a b) r (omega arith)
-
-  four-whole : (r : List ℕ) → 4 ≤ length r → four r k ≡ k (getD r 0 0) (getD r 1 0) (getD r 2 0) (getD r 3 0) (drop 4 r)
-  four-whole [] h = absurd (omega arith)
-  four-whole (a ∷ []) h = absurd (omega arith)
-  four-whole (a ∷ b ∷ r) h = two-whole (k a b) r (omega arith)
-
--- the same at a position of a tape
-module _ (l : List ℕ) (n : ℕ) where
-  one-cut : (k : ℕ → List ℕ → Tapes.Command) → length l < n + 1 → one (drop n l) k ≡ bad
-  one-cut k h = let d = length-drop n l in one-short k (drop n l) (omega arith)
-
-  one-at : (k : ℕ → List ℕ → Tapes.Command) → n + 1 ≤ length l → one (drop n l) k ≡ k (getD l n 0) (drop (n + 1) l)
-  one-at k h =
-      let d = length-drop n l in
-      one-whole k (drop n l) (omega arith) ∙ rw (getD-drop n l 0 0, drop-drop 1 n l, add-zero n)
-
-  two-cut : (k : ℕ → ℕ → List ℕ → Tapes.Command) → length l < n + 2 → two (drop n l) k ≡ bad
-  two-cut k h = let d = length-drop n l in two-short k (drop n l) (omega arith)
-
-  two-at : (k : ℕ → ℕ → List ℕ → Tapes.Command) → n + 2 ≤ length l → two (drop n l) k ≡ k (getD l n 0) (getD l (n + 1) 0) (drop (n + 2) l)
-  two-at k h =
-      let d = length-drop n l in
-      two-whole k (drop n l) (omega arith) ∙ rw (getD-drop n l 0 0, getD-drop n l 1 0, drop-drop 2 n l, add-zero n)
-
-  four-cut : (k : ℕ → ℕ → ℕ → ℕ → List ℕ → Tapes.Command) → length l < n + 4 → four (drop n l) k ≡ bad
-  four-cut k h = let d = length-drop n l in four-short k (drop n l) (omega arith)
-
-  four-at : (k : ℕ → ℕ → ℕ → ℕ → List ℕ → Tapes.Command) → n + 4 ≤ length l
-      → four (drop n l) k ≡ k (getD l n 0) (getD l (n + 1) 0) (getD l (n + 2) 0) (getD l (n + 3) 0) (drop (n + 4) l)
-  four-at k h =
-      let d = length-drop n l in
-      four-whole k (drop n l) (omega arith)
-      ∙ rw (getD-drop n l 0 0, getD-drop n l 1 0, getD-drop n l 2 0, getD-drop n l 3 0, drop-drop 4 n l, add-zero n)
-
--- ---- the command that begins with a byte
-
 module _ (l : List ℕ) (at : ℕ) (h : at < length l) where
   opened : drop at l ≡ getD l at 0 ∷ drop (at + 1) l
   opened = rw add-one (drop-cons l at 0 h)
 
-  at-41 : getD l at 0 ≡ 0x41 → command (drop at l) ≡ two (drop (at + 1) l) (λ a b s. axis (little (a ∷ b ∷ [])) s)
-  unfolding command
+  at-41 : getD l at 0 ≡ 0x41 → firstOf (drop at l) ≡ operand 2 (drop (at + 1) l) (λ d s. found (axis d) s)
+  unfolding firstOf
   at-41 e = rw (opened, e)
 
-  at-42 : getD l at 0 ≡ 0x42 → command (drop at l) ≡ one (drop (at + 1) l) (λ a s. boards a s)
-  unfolding command
+  at-42 : getD l at 0 ≡ 0x42 → firstOf (drop at l) ≡ operand 1 (drop (at + 1) l) (λ p s. found (boards p) s)
+  unfolding firstOf
   at-42 e = rw (opened, e)
 
-  at-56 : getD l at 0 ≡ 0x56 → command (drop at l) ≡ four (drop (at + 1) l) (λ a b d e s. points 1 (point a b d e) s)
-  unfolding command
-  at-56 e = rw (opened, e)
+  at-single : (c : ℕ) → getD l at 0 ≡ c → single c ≡ true → firstOf (drop at l) ≡ operand 4 (drop (at + 1) l) (λ b s. found (points 1 (readingOf c b)) s)
+  unfolding firstOf single
+  at-single c e t = rw (opened, e) (by-single (λ c. firstOf (c ∷ drop (at + 1) l) ≡ operand 4 (drop (at + 1) l) (λ b s. found (points 1 (readingOf c b)) s)) c t refl refl refl)
 
-  at-52 : getD l at 0 ≡ 0x52 → command (drop at l) ≡ two (drop (at + 1) l) (λ a b s. four s (λ d e f g t. repeated (little (a ∷ b ∷ [])) (point d e f g) t))
-  unfolding command
+  at-52 : getD l at 0 ≡ 0x52 → firstOf (drop at l) ≡ operand 2 (drop (at + 1) l) (λ n s. operand 4 s (λ b t. repeated n (readingOf 0x52 b) t))
+  unfolding firstOf single
   at-52 e = rw (opened, e)
 
-  at-45 : getD l at 0 ≡ 0x45 → command (drop at l) ≡ end (drop (at + 1) l)
-  unfolding command
+  at-45 : getD l at 0 ≡ 0x45 → firstOf (drop at l) ≡ found end (drop (at + 1) l)
+  unfolding firstOf single
   at-45 e = rw (opened, e)
-
-  at-other : (getD l at 0 ≡ 0x41 → ⊥) → (getD l at 0 ≡ 0x42 → ⊥) → (getD l at 0 ≡ 0x56 → ⊥) → (getD l at 0 ≡ 0x52 → ⊥) → (getD l at 0 ≡ 0x45 → ⊥)
-      → command (drop at l) ≡ bad
-  unfolding command
-  at-other a b c d e =
-      rw (opened, ne-eqb _ _ a, ne-eqb _ _ b, ne-eqb _ _ c, ne-eqb _ _ d, ne-eqb _ _ e)
 
   -- ---- the answers of decoding, command by command
 
-  pub axis-cut : getD l at 0 ≡ 0x41 → length l - at < 3 → Bad ≡ decoding l at
+  pub axis-cut : getD l at 0 ≡ 0x41 → length l - at < 3 → nothing ≡ decoding l at
   unfolding decoding told
-  axis-cut e q = rw (at-41 e, two-cut l (at + 1) _ (omega arith))
+  axis-cut e q = rw (at-41 e, cut l 2 (at + 1) (λ d s. found (axis d) s) (omega arith) (omega arith))
 
-  pub axis-told : getD l at 0 ≡ 0x41 → 3 ≤ length l - at → Axis (little (getD l (at + 1) 0 ∷ getD l (at + 1 + 1) 0 ∷ [])) (at + 3) ≡ decoding l at
+  pub axis-told : getD l at 0 ≡ 0x41 → 3 ≤ length l - at → placed (axis (little (take 2 (drop (at + 1) l)))) (at + 3) ≡ decoding l at
   unfolding decoding told
-  axis-told e q = rw (at-41 e, two-at l (at + 1) _ (omega arith), back l (at + 1 + 2) (at + 3) (omega arith) (omega arith))
+  axis-told e q = rw (at-41 e, whole l 2 (at + 1) (λ d s. found (axis d) s) (omega arith), back l (at + 1 + 2) (at + 3) (omega arith) (omega arith))
 
-  pub boards-cut : getD l at 0 ≡ 0x42 → length l - at < 2 → Bad ≡ decoding l at
+  pub boards-cut : getD l at 0 ≡ 0x42 → length l - at < 2 → nothing ≡ decoding l at
   unfolding decoding told
-  boards-cut e q = rw (at-42 e, one-cut l (at + 1) _ (omega arith))
+  boards-cut e q = rw (at-42 e, cut l 1 (at + 1) (λ p s. found (boards p) s) (omega arith) (omega arith))
 
-  pub boards-told : getD l at 0 ≡ 0x42 → 2 ≤ length l - at → Boards (getD l (at + 1) 0) (at + 2) ≡ decoding l at
+  pub boards-told : getD l at 0 ≡ 0x42 → 2 ≤ length l - at → placed (boards (getD l (at + 1) 0)) (at + 2) ≡ decoding l at
   unfolding decoding told
-  boards-told e q = rw (at-42 e, one-at l (at + 1) _ (omega arith), back l (at + 1 + 1) (at + 2) (omega arith) (omega arith))
+  boards-told e q = rw (← one l (at + 1) (omega arith), at-42 e, whole l 1 (at + 1) (λ p s. found (boards p) s) (omega arith), back l (at + 1 + 1) (at + 2) (omega arith) (omega arith))
 
-  pub single-cut : getD l at 0 ≡ 0x56 → length l - at < 5 → Bad ≡ decoding l at
-  unfolding decoding told
-  single-cut e q = rw (at-56 e, four-cut l (at + 1) _ (omega arith))
+  module _ (c : ℕ) (e : getD l at 0 ≡ c) (t : single c ≡ true) where
+    abbrev k : ℕ → List ℕ → First
+    k b s = found (points 1 (readingOf c b)) s
 
-  pub single-told : getD l at 0 ≡ 0x56 → 5 ≤ length l - at
-      → Points 1 (point (getD l (at + 1) 0) (getD l (at + 1 + 1) 0) (getD l (at + 1 + 2) 0) (getD l (at + 1 + 3) 0)) (at + 5) ≡ decoding l at
-  unfolding decoding told
-  single-told e q = rw (at-56 e, four-at l (at + 1) _ (omega arith), back l (at + 1 + 4) (at + 5) (omega arith) (omega arith))
+    pub single-cut : length l - at < 5 → nothing ≡ decoding l at
+    unfolding decoding told
+    single-cut q = rw (at-single c e t, cut l 4 (at + 1) k (omega arith) (omega arith))
 
-  pub repeated-cut : getD l at 0 ≡ 0x52 → length l - at < 7 → Bad ≡ decoding l at
-  unfolding decoding told
-  repeated-cut e q = rw (at-52 e) (go (ltb (length l - at) 3) refl)
-    where
-      go : (t : Bool) → ltb (length l - at) 3 ≡ t → Bad ≡ told (length l) (two (drop (at + 1) l) (λ a b s. four s (λ d e f g t. repeated (little (a ∷ b ∷ [])) (point d e f g) t)))
-      go true z = let y = ltb-true (length l - at) 3 z in rw (two-cut l (at + 1) _ (omega arith))
-      go false z = let y = ltb-false (length l - at) 3 z in rw (two-at l (at + 1) _ (omega arith), four-cut l (at + 1 + 2) _ (omega arith))
+    pub single-told : 5 ≤ length l - at → placed (points 1 (readingOf c (little (take 4 (drop (at + 1) l))))) (at + 5) ≡ decoding l at
+    unfolding decoding told
+    single-told q = rw (at-single c e t, whole l 4 (at + 1) k (omega arith), back l (at + 1 + 4) (at + 5) (omega arith) (omega arith))
 
-  -- a 52 whose operands are all there
-  repeated-at : getD l at 0 ≡ 0x52 → 7 ≤ length l - at
-      → command (drop at l) ≡ repeated (little (getD l (at + 1) 0 ∷ getD l (at + 1 + 1) 0 ∷ [])) (point (getD l (at + 3) 0) (getD l (at + 3 + 1) 0) (getD l (at + 3 + 2) 0) (getD l (at + 3 + 3) 0)) (drop (at + 3 + 4) l)
-  repeated-at e q =
-      let z : at + 1 + 2 ≡ at + 3 = omega arith in
-      at-52 e ∙ two-at l (at + 1) _ (omega arith) ∙ rw z (four-at l (at + 3) _ (omega arith))
+  module _ (e : getD l at 0 ≡ 0x52) where
+    abbrev reads : ℕ → List ℕ → First
+    reads n s = operand 4 s (λ b t. repeated n (readingOf 0x52 b) t)
 
-  pub repeated-never : getD l at 0 ≡ 0x52 → 7 ≤ length l - at → little (getD l (at + 1) 0 ∷ getD l (at + 1 + 1) 0 ∷ []) ≡ 0 → Bad ≡ decoding l at
-  unfolding decoding told repeated
-  repeated-never e q z = rw (repeated-at e q, z)
+    pub repeated-cut : length l - at < 7 → nothing ≡ decoding l at
+    unfolding decoding told
+    repeated-cut q = rw (at-52 e) (by (ltb (length l - at) 3)
+        (λ z. let y = ltb-true (length l - at) 3 z in rw (cut l 2 (at + 1) reads (omega arith) (omega arith)))
+        (λ z. let y = ltb-false (length l - at) 3 z in rw (whole l 2 (at + 1) reads (omega arith), cut l 4 (at + 1 + 2) (λ b t. repeated (little (take 2 (drop (at + 1) l))) (readingOf 0x52 b) t) (omega arith) (omega arith))))
 
-  pub repeated-told : (n : ℕ) → getD l at 0 ≡ 0x52 → 7 ≤ length l - at → n ≡ little (getD l (at + 1) 0 ∷ getD l (at + 1 + 1) 0 ∷ []) → (n ≡ 0 → ⊥)
-      → Points n (point (getD l (at + 3) 0) (getD l (at + 3 + 1) 0) (getD l (at + 3 + 2) 0) (getD l (at + 3 + 3) 0)) (at + 7) ≡ decoding l at
-  unfolding decoding told repeated
-  repeated-told zero e q y z = absurd (z refl)
-  repeated-told (suc n) e q y z = rw (repeated-at e q, ← y, back l (at + 3 + 4) (at + 7) (omega arith) (omega arith))
+    -- a 52 whose operands are all there
+    repeated-at : 7 ≤ length l - at → firstOf (drop at l) ≡ repeated (little (take 2 (drop (at + 1) l))) (readingOf 0x52 (little (take 4 (drop (at + 3) l)))) (drop (at + 3 + 4) l)
+    repeated-at q =
+        let z : at + 1 + 2 ≡ at + 3 = omega arith in
+        at-52 e ∙ whole l 2 (at + 1) reads (omega arith) ∙ rw z (whole l 4 (at + 3) (λ b t. repeated (little (take 2 (drop (at + 1) l))) (readingOf 0x52 b) t) (omega arith))
 
-  pub end-told : getD l at 0 ≡ 0x45 → End (at + 1) ≡ decoding l at
+    pub repeated-never : 7 ≤ length l - at → little (take 2 (drop (at + 1) l)) ≡ 0 → nothing ≡ decoding l at
+    unfolding decoding told repeated
+    repeated-never q z = rw (repeated-at q, z)
+
+    pub repeated-told : (n : ℕ) → 7 ≤ length l - at → n ≡ little (take 2 (drop (at + 1) l)) → (n ≡ 0 → ⊥)
+        → placed (points n (readingOf 0x52 (little (take 4 (drop (at + 3) l))))) (at + 7) ≡ decoding l at
+    unfolding decoding told repeated
+    repeated-told zero q y z = absurd (z refl)
+    repeated-told (suc n) q y z = rw (repeated-at q, ← y, back l (at + 3 + 4) (at + 7) (omega arith) (omega arith))
+
+  pub end-told : getD l at 0 ≡ 0x45 → placed end (at + 1) ≡ decoding l at
   unfolding decoding told
   end-told e = rw (at-45 e, back l (at + 1) (at + 1) refl (omega arith))
 
-  pub other-told : (getD l at 0 ≡ 0x41 → ⊥) → (getD l at 0 ≡ 0x42 → ⊥) → (getD l at 0 ≡ 0x56 → ⊥) → (getD l at 0 ≡ 0x52 → ⊥) → (getD l at 0 ≡ 0x45 → ⊥)
-      → Bad ≡ decoding l at
-  unfolding decoding told
-  other-told a b c d e = rw (at-other a b c d e)
+  pub other-told : (getD l at 0 ≡ 0x41 → ⊥) → (getD l at 0 ≡ 0x42 → ⊥) → single (getD l at 0) ≡ false → (getD l at 0 ≡ 0x52 → ⊥) → (getD l at 0 ≡ 0x45 → ⊥) → nothing ≡ decoding l at
+  unfolding decoding told firstOf
+  other-told a b c d e = rw (opened, ne-eqb _ _ a, ne-eqb _ _ b, c, ne-eqb _ _ d, ne-eqb _ _ e)
 
-pub past-told : (l : List ℕ) (at : ℕ) → length l ≤ at → Bad ≡ decoding l at
-unfolding decoding told command
+pub past-told : (l : List ℕ) (at : ℕ) → length l ≤ at → nothing ≡ decoding l at
+unfolding decoding told firstOf
 past-told l at h = rw (drop-of-length-le l h)
+
+-- a 56 and a float are single readings; a byte that is neither
+pub is-float : (c : ℕ) → (c ≡ 0x4B) ⊎ (c ≡ 0x4D) → single c ≡ true
+unfolding single
+is-float c (inl e) = rw e
+is-float c (inr e) = rw e
+
+pub is-56 : (c : ℕ) → c ≡ 0x56 → single c ≡ true
+unfolding single
+is-56 c e = rw e
+
+pub not-single : (c : ℕ) → (c ≡ 0x56 → ⊥) → ((c ≡ 0x4B) ⊎ (c ≡ 0x4D) → ⊥) → single c ≡ false
+unfolding single
+not-single c h k = rw (ne-eqb c 0x56 h, ne-eqb c 0x4D (λ e. k (inr e)), ne-eqb c 0x4B (λ e. k (inl e)))
+
+pub never-float : (c : ℕ) → 0x52 ≤ c → (c ≡ 0x4B) ⊎ (c ≡ 0x4D) → ⊥
+never-float c h (inl e) = omega arith
+never-float c h (inr e) = omega arith

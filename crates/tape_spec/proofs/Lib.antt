@@ -1,7 +1,8 @@
-pub mod Cases
+pub mod Commands
+pub mod Operands
 pub mod Decoding
-pub mod Forms
 pub mod Scanning
 pub mod Filling
 pub mod Refusing
 pub mod Writing
+pub mod Cases

@@ -2,44 +2,53 @@
 use Prim.Native.Nat.{ℕ, zero, suc, _≤_, _<_}
 use mathlib.Core.Path.{_≡_, refl, sym, _∙_}
 use mathlib.Core.Bool.{Bool, true, false}
-use mathlib.Core.List.{List, _++_}
+use mathlib.Core.List.{List, [], _∷_, _++_}
 use native.Mathlib.Omega.{arith}
 use borrow.Author.Tests.{lt-ltb, le-ltb}
 use lib.ListN.{length}
 use lib.IntN.{ℤ}
 use Rattle.cube_spec.specs.Boxes.{pick}
-use Rattle.cube_spec.specs.Checks.{Check, first}
+use Rattle.cube_spec.specs.Checks.{Check, check, first}
+use Rattle.cube_spec.proofs.Dues.{Numbered, first-due, first-passed, none-both}
 use Rattle.tape_spec.specs.declared.types.Scan.{Scan}
-use Rattle.tape_spec.specs.Tapes.{Campaign, campaign}
-use Rattle.tape_spec.specs.Reading.{tooLong, isNone, orEmpty, scanChecks, scanRefusal, scannedAs, scanning, shortSlice, readingChecks, readingRefusal, filledOr, reading}
+use Rattle.tape_spec.specs.Tapes.{Entry, form, Campaign, campaign}
+use Rattle.tape_spec.specs.Reading.{tooLong, isNone, orEmpty, entriesIn, entryChecks, scanChecks, scanRefusal, scannedAs, scanning, shortSlice, readingChecks, readingRefusal, filledOr, reading}
 
-refusal-is : (n : ℕ) (c : Campaign) → scannedAs n c .refusal ≡ n
+refusal-is : (n : ℕ) (f : Campaign) → scannedAs n f .refusal ≡ n
 unfolding scannedAs
-refusal-is zero c = refl
-refusal-is (suc n) c = refl
+refusal-is zero f = refl
+refusal-is (suc n) f = refl
 
-points-are : (n : ℕ) (c : Campaign) → n ≡ 0 → scannedAs n c .points ≡ length (c .points)
+points-are : (n : ℕ) (f : Campaign) → n ≡ 0 → scannedAs n f .points ≡ length (f .points)
 unfolding scannedAs
-points-are zero c e = refl
-points-are (suc n) c e = absurd (omega arith)
+points-are zero f e = refl
+points-are (suc n) f e = absurd (omega arith)
 
 left-alone : (n : ℕ) (p s : List ℤ) → (n ≡ 0 → ⊥) → filledOr n p s ≡ s
 unfolding filledOr
 left-alone zero p s h = absurd (h refl)
 left-alone (suc n) p s h = refl
 
-abbrev due : Bool → Bool → ℕ → ℕ
-due a b x = pick a 1 (pick b 2 x)
+entries-numbered : (es : List Entry) → Numbered (entryChecks es)
+unfolding entryChecks
+entries-numbered [] = tt
+entries-numbered (e ∷ es) = (omega arith, (omega arith, entries-numbered es))
 
-none-due : (a b : Bool) → due a b 0 ≡ 0 → (a ≡ false) × (b ≡ false)
-none-due true b e = absurd (omega arith)
-none-due false true e = absurd (omega arith)
-none-due false false e = (refl, refl)
+numbered : (tape : List ℕ) → Numbered (scanChecks tape)
+unfolding scanChecks
+numbered tape = (omega arith, (omega arith, entries-numbered (entriesIn (form tape))))
 
-first-due : (a b : Bool) (x : ℕ) → (due a b 0 ≡ 0 → ⊥) → due a b 0 ≡ due a b x
-first-due true b x h = refl
-first-due false true x h = refl
-first-due false false x h = absurd (h refl)
+-- of the scan's checks and others after them none is due: then none of either is
+pub none-of-scan : (tape : List ℕ) (r : List Check) → first (scanChecks tape ++ r) ≡ 0 → (first (scanChecks tape) ≡ 0) × (first r ≡ 0)
+none-of-scan tape r = none-both (scanChecks tape) r (numbered tape)
+
+pub after-scan : (tape : List ℕ) (r : List Check) → first (scanChecks tape) ≡ 0 → first (scanChecks tape ++ r) ≡ first r
+after-scan tape r h = first-passed (scanChecks tape) r (numbered tape) h
+
+kept-form : (a b : Bool) (x : ℕ) → pick a 1 (pick b 2 x) ≡ 0 → b ≡ false
+kept-form true b x e = absurd (omega arith)
+kept-form false true x e = absurd (omega arith)
+kept-form false false x e = refl
 
 module _ (tape : List ℕ) (f : Scan) (e : f ≡ scanning tape) where
   refusal : f .refusal ≡ scanRefusal tape
@@ -48,8 +57,8 @@ module _ (tape : List ℕ) (f : Scan) (e : f ≡ scanning tape) where
 
   -- where the scan refuses, no later check counts
   pub scan-first : (f .refusal ≡ 0 → ⊥) → (r : List Check) → f .refusal ≡ first (scanChecks tape ++ r)
-  unfolding scanRefusal scanChecks first
-  scan-first h r = refusal ∙ first-due (tooLong tape) (isNone (campaign tape)) (first r) (λ z. h (refusal ∙ z))
+  unfolding scanRefusal
+  scan-first h r = refusal ∙ sym (first-due (scanChecks tape) r (λ z. h (refusal ∙ z)))
 
   pub refuses : (f .refusal ≡ 0 → ⊥) → (s : List ℤ) → (f .refusal ≡ readingRefusal tape (length s)) × (s ≡ reading tape s)
   unfolding readingRefusal readingChecks reading
@@ -58,21 +67,21 @@ module _ (tape : List ℕ) (f : Scan) (e : f ≡ scanning tape) where
       (q, sym (left-alone (readingRefusal tape (length s)) _ s (λ z. h (q ∙ z))))
 
   module _ (h : f .refusal ≡ 0) where
-    none-of : (tooLong tape ≡ false) × (isNone (campaign tape) ≡ false)
-    unfolding scanRefusal scanChecks first
-    none-of = none-due (tooLong tape) (isNone (campaign tape)) (sym refusal ∙ h)
-
     -- where the scan does not refuse, the later checks decide
     pub scan-passed : (r : List Check) → first (scanChecks tape ++ r) ≡ first r
-    unfolding scanChecks first
-    scan-passed r = rw (none-of .0, none-of .1)
+    unfolding scanRefusal
+    scan-passed r = after-scan tape r (sym refusal ∙ h)
+
+    form-kept : isNone (campaign tape) ≡ false
+    unfolding scanRefusal scanChecks first
+    form-kept = kept-form (tooLong tape) (isNone (campaign tape)) _ (sym refusal ∙ h)
 
     counts : f .points ≡ length (orEmpty (campaign tape) .points)
     unfolding scanning
     counts = rw e (points-are (scanRefusal tape) (orEmpty (campaign tape)) (sym refusal ∙ h))
 
     pub stores : (n : ℕ) → f .points ≤ n → (isNone (campaign tape) ≡ false) × (length (orEmpty (campaign tape) .points) ≤ n)
-    stores n l = (none-of .1, rw counts at l)
+    stores n l = (form-kept, rw counts at l)
 
     pub short : (s : List ℤ) → length s < f .points → (11 ≡ readingRefusal tape (length s)) × (s ≡ reading tape s)
     unfolding reading readingRefusal readingChecks first shortSlice filledOr

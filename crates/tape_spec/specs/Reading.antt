@@ -1,15 +1,16 @@
--- Reading a tape into a lent slice: the refusals, and the slice afterwards.
+-- Scanning a tape, and reading it into a lent slice: the refusals, and what there is afterwards.
 use Prim.Native.Nat.{ℕ, zero, suc}
 use mathlib.Core.Bool.{Bool, true, false}
 use mathlib.Core.Option.{Option, none, some}
 use mathlib.Core.List.{List, [], _∷_, _++_}
-use lib.Dec.{ltb}
+use lib.Dec.{eqb, ltb}
 use lib.ListN.{length, drop}
 use lib.IntN.{ℤ}
 use Rattle.cube_spec.specs.Limits.{tapeLimit, padded}
 use Rattle.cube_spec.specs.Checks.{Check, check, first}
+use Rattle.tape_reading.specs.Readings.{centimetresOf, refusalIn}
 use Rattle.tape_spec.specs.declared.types.Scan.{Scan}
-use Rattle.tape_spec.specs.Tapes.{Campaign, campaign}
+use Rattle.tape_spec.specs.Tapes.{Entry, Form, form, Campaign, campaign}
 
 -- 1. "The tape is over 65,536 bytes."
 unfoldable pub tooLong : List ℕ → Bool
@@ -25,10 +26,22 @@ abbrev pub orEmpty : Option Campaign → Campaign
 orEmpty none = record { lengths = []; p = 0; points = [] }
 orEmpty (some c) = c
 
--- ---- scanning: the form, and what the tape holds, without its points
+abbrev pub entriesIn : Option Form → List Entry
+entriesIn none = []
+entriesIn (some f) = f .entries
 
+-- ---- scanning: the form, the readings, and what the tape holds, without its points
+
+-- "14 for a float that is infinite or not a number, and 15 for a result outside .." and "the first offending reading decides": the readings in the tape's order
+unfoldable pub entryChecks : List Entry → List Check
+entryChecks [] = []
+entryChecks (e ∷ es) =
+    let n = refusalIn (centimetresOf (e .reading)) in
+    check 14 (eqb n 14) ∷ check 15 (eqb n 15) ∷ entryChecks es
+
+-- "both come right after 2"
 unfoldable pub scanChecks : List ℕ → List Check
-scanChecks tape = check 1 (tooLong tape) ∷ check 2 (isNone (campaign tape)) ∷ []
+scanChecks tape = check 1 (tooLong tape) ∷ check 2 (isNone (campaign tape)) ∷ entryChecks (entriesIn (form tape))
 
 unfoldable pub scanRefusal : List ℕ → ℕ
 scanRefusal tape = first (scanChecks tape)

@@ -1,110 +1,141 @@
--- The tape: its commands, its form, and the campaign that it holds.
+-- The tape: its commands, its form, and what it holds.
 use Prim.Native.Nat.{ℕ, zero, suc}
+use mathlib.Core.Bool.{Bool, _||_}
 use mathlib.Core.Option.{Option, none, some}
 use mathlib.Core.List.{List, [], _∷_, _++_}
-use lib.Dec.{eqb}
-use lib.ListN.{length, replicate}
+use lib.Dec.{eqb, ltb}
+use lib.ListN.{length, take, drop, replicate}
 use lib.IntN.{ℤ}
-use mir.Syntax.{w32}
-use mir.Val.{toZ}
 use Rattle.cube_spec.specs.Bytes.{little}
 use Rattle.cube_spec.specs.Boxes.{pick}
+use Rattle.tape_reading.specs.declared.types.Reading.{Reading}
+use Rattle.tape_reading.specs.Readings.{readingOf, centimetresOf, valueIn}
 
 -- ---- "one-byte commands with operands of fixed width, little-endian"
 
--- the four bytes of a point: "signed 32-bit"
-unfoldable pub signed32 : ℕ → ℤ
-signed32 n = toZ w32 n
-
--- What bytes begin with, and the bytes that follow it.
 pub data Command : Type 0 where
   -- 41: an axis length
-  axis : ℕ → List ℕ → Command
+  axis : ℕ → Command
   -- 42: p, for 2^p boards
-  boards : ℕ → List ℕ → Command
-  -- 56 and 52: how often a point stands, and the point
-  points : ℕ → ℤ → List ℕ → Command
+  boards : ℕ → Command
+  -- 56, 4D and 4B: a reading, once; 52: how often a reading stands
+  points : ℕ → Reading → Command
   -- 45
-  end : List ℕ → Command
-  -- no command, or one cut short, or a 52 of count 0
-  bad : Command
+  end : Command
 
--- operands of one, two and four bytes, handed to k with the bytes that follow
-abbrev pub one : List ℕ → (ℕ → List ℕ → Command) → Command
-one [] k = bad
-one (a ∷ r) k = k a r
+-- What bytes begin with: a command, and the bytes that follow it; or no command, or one cut short, or a 52 of count 0.
+pub data First : Type 0 where
+  found : Command → List ℕ → First
+  bad : First
 
-abbrev pub two : List ℕ → (ℕ → ℕ → List ℕ → Command) → Command
-two [] k = bad
-two (a ∷ r) k = one r (λ b s. k a b s)
+-- an operand of n bytes, handed to k with the bytes that follow
+unfoldable pub operand : ℕ → List ℕ → (ℕ → List ℕ → First) → First
+operand n bytes k = pick (ltb (length bytes) n) bad (k (little (take n bytes)) (drop n bytes))
 
-abbrev pub four : List ℕ → (ℕ → ℕ → ℕ → ℕ → List ℕ → Command) → Command
-four r k = two r (λ a b s. two s (λ c d t. k a b c d t))
+-- "4D (metres) and 4B (kilometres) .. stand wherever a 56 may"
+unfoldable pub single : ℕ → Bool
+single c = eqb c 0x56 || eqb c 0x4D || eqb c 0x4B
 
 -- "52 a count (2 bytes, at least 1) and a point repeated that often"
-unfoldable pub repeated : ℕ → ℤ → List ℕ → Command
-repeated zero v r = bad
-repeated (suc n) v r = points (suc n) v r
+unfoldable pub repeated : ℕ → Reading → List ℕ → First
+repeated zero v rest = bad
+repeated (suc n) v rest = found (points (suc n) v) rest
 
-unfoldable pub point : ℕ → ℕ → ℕ → ℕ → ℤ
-point a b c d = signed32 (little (a ∷ b ∷ c ∷ d ∷ []))
+-- the first command of some bytes; "command 52 still repeats centimetres"
+unfoldable pub firstOf : List ℕ → First
+firstOf [] = bad
+firstOf (c ∷ r) =
+    pick (eqb c 0x41) (operand 2 r (λ d s. found (axis d) s))
+    (pick (eqb c 0x42) (operand 1 r (λ p s. found (boards p) s))
+    (pick (single c) (operand 4 r (λ b s. found (points 1 (readingOf c b)) s))
+    (pick (eqb c 0x52) (operand 2 r (λ n s. operand 4 s (λ b t. repeated n (readingOf c b) t)))
+    (pick (eqb c 0x45) (found end r) bad))))
 
--- the first command of some bytes
-unfoldable pub command : List ℕ → Command
-command [] = bad
-command (c ∷ r) =
-    pick (eqb c 0x41) (two r (λ a b s. axis (little (a ∷ b ∷ [])) s))
-    (pick (eqb c 0x42) (one r (λ a s. boards a s))
-    (pick (eqb c 0x56) (four r (λ a b d e s. points 1 (point a b d e) s))
-    (pick (eqb c 0x52) (two r (λ a b s. four s (λ d e f g t. repeated (little (a ∷ b ∷ [])) (point d e f g) t)))
-    (pick (eqb c 0x45) (end r) bad))))
+-- one command more in front
+abbrev pub prepend : Command → Option (List Command) → Option (List Command)
+prepend c none = none
+prepend c (some cs) = some (c ∷ cs)
+
+-- `k` reads the bytes that follow
+unfoldable pub firstThen : First → (List ℕ → Option (List Command)) → Option (List Command)
+firstThen (found c r) k = prepend c (k r)
+firstThen bad k = none
+
+unfoldable pub commandsOf : ℕ → List ℕ → Option (List Command)
+commandsOf zero [] = some []
+commandsOf zero (b ∷ r) = none
+commandsOf (suc f) [] = some []
+commandsOf (suc f) (b ∷ r) = firstThen (firstOf (b ∷ r)) (commandsOf f)
+
+-- the commands of a tape from its first byte to its last: there are at most as many as bytes
+unfoldable pub commands : List ℕ → Option (List Command)
+commands tape = commandsOf (length tape) tape
 
 -- ---- "All 41s, then one 42, then points, then 45 and nothing further."
 
--- what a tape holds
+-- a reading and how often it stands
+pub record Entry : Type 0 where
+  pub times : ℕ
+  pub reading : Reading
+
+-- what a tape says
+pub record Form : Type 0 where
+  pub lengths : List ℕ
+  pub p : ℕ
+  pub entries : List Entry
+
+abbrev pub withEntry : ℕ → Reading → Option (List Entry) → Option (List Entry)
+withEntry n v none = none
+withEntry n v (some l) = some (record { times = n; reading = v } ∷ l)
+
+abbrev pub withLength : ℕ → Option Form → Option Form
+withLength d none = none
+withLength d (some f) = some (record { lengths = d ∷ f .lengths; p = f .p; entries = f .entries })
+
+abbrev pub withBoards : ℕ → Option (List Entry) → Option Form
+withBoards p none = none
+withBoards p (some l) = some (record { lengths = []; p = p; entries = l })
+
+-- from the 42 on: "points, then 45 and nothing further"
+unfoldable pub entriesOf : List Command → Option (List Entry)
+entriesOf [] = none
+entriesOf (axis d ∷ cs) = none
+entriesOf (boards p ∷ cs) = none
+entriesOf (points n v ∷ cs) = withEntry n v (entriesOf cs)
+entriesOf (end ∷ []) = some []
+entriesOf (end ∷ c ∷ cs) = none
+
+-- from the start: "All 41s, then one 42"
+unfoldable pub formOf : List Command → Option Form
+formOf [] = none
+formOf (axis d ∷ cs) = withLength d (formOf cs)
+formOf (boards p ∷ cs) = withBoards p (entriesOf cs)
+formOf (points n v ∷ cs) = none
+formOf (end ∷ cs) = none
+
+abbrev pub formIn : Option (List Command) → Option Form
+formIn none = none
+formIn (some cs) = formOf cs
+
+-- what a tape says, if it keeps the form
+unfoldable pub form : List ℕ → Option Form
+form tape = formIn (commands tape)
+
+-- ---- the points
+
+unfoldable pub pointsOf : List Entry → List ℤ
+pointsOf [] = []
+pointsOf (e ∷ es) = replicate (e .times) (valueIn (centimetresOf (e .reading))) ++ pointsOf es
+
+-- what a campaign holds; where a reading is refused, a 0 is in its place (`Reading.scanChecks` refuses such a tape)
 pub record Campaign : Type 0 where
   pub lengths : List ℕ
   pub p : ℕ
   pub points : List ℤ
 
-abbrev pub withPoints : ℕ → ℤ → Option (List ℤ) → Option (List ℤ)
-withPoints n v none = none
-withPoints n v (some l) = some (replicate n v ++ l)
+abbrev pub asCampaign : Option Form → Option Campaign
+asCampaign none = none
+asCampaign (some f) = some (record { lengths = f .lengths; p = f .p; points = pointsOf (f .entries) })
 
--- a command among the points, `k` reading what follows
-unfoldable pub pointsThen : Command → (List ℕ → Option (List ℤ)) → Option (List ℤ)
-pointsThen (axis d r) k = none
-pointsThen (boards p r) k = none
-pointsThen (points n v r) k = withPoints n v (k r)
-pointsThen (end []) k = some []
-pointsThen (end (b ∷ r)) k = none
-pointsThen bad k = none
-
--- the points, to the end of the tape; `f` is at least the number of commands
-unfoldable pub pointsOf : ℕ → List ℕ → Option (List ℤ)
-pointsOf zero bytes = none
-pointsOf (suc f) bytes = pointsThen (command bytes) (pointsOf f)
-
-abbrev pub withLength : ℕ → Option Campaign → Option Campaign
-withLength d none = none
-withLength d (some c) = some (record { lengths = d ∷ c .lengths; p = c .p; points = c .points })
-
-abbrev pub withBoards : ℕ → Option (List ℤ) → Option Campaign
-withBoards p none = none
-withBoards p (some l) = some (record { lengths = []; p = p; points = l })
-
--- a command among the lengths, `k` reading what follows, `f` as above
-unfoldable pub lengthsThen : ℕ → Command → (List ℕ → Option Campaign) → Option Campaign
-lengthsThen f (axis d r) k = withLength d (k r)
-lengthsThen f (boards p r) k = withBoards p (pointsOf f r)
-lengthsThen f (points n v r) k = none
-lengthsThen f (end r) k = none
-lengthsThen f bad k = none
-
-unfoldable pub campaignOf : ℕ → List ℕ → Option Campaign
-campaignOf zero bytes = none
-campaignOf (suc f) bytes = lengthsThen f (command bytes) (campaignOf f)
-
--- what a tape holds, if it keeps the form: a command has at least one byte
 unfoldable pub campaign : List ℕ → Option Campaign
-campaign tape = campaignOf (length tape) tape
+campaign tape = asCampaign (form tape)

@@ -15,15 +15,17 @@ pub enum Command {
     // 42: p.
     Boards(u8, usize),
     // 56 and 52: how often a point stands, and the point.
-    Points(u16, i32, usize),
+    Points(usize, i32, usize),
+    // 4D and 4B: the command's byte, and the four bytes of the float as a number.
+    Float(u8, u32, usize),
     // 45.
     End(usize),
     // No command, or one cut short, or a 52 of count 0.
     Bad,
 }
 
-// How many points the rest of a tape holds, if it keeps the form.
+// How many points the rest of a tape holds, and the first refusal of a reading, 0 for none; if it keeps the form.
 pub enum Count {
-    Whole(u64),
+    Whole(u64, u8),
     Broken,
 }

@@ -22,7 +22,7 @@ use Rattle.plan_spec.proofs.Demand.{plan-sound}
 use Rattle.cube_spec.proofs.Dues.{Numbered, first-due, first-passed}
 use Rattle.tape_spec.specs.Tapes.{Campaign, campaign}
 use Rattle.tape_spec.specs.declared.types.Scan.{Scan}
-use Rattle.tape_spec.specs.Reading.{orEmpty, scanChecks, scanRefusal, scannedAs, scanning}
+use Rattle.tape_spec.specs.Reading.{orEmpty, scanRefusal, scannedAs, scanning}
 use Rattle.tape_spec.proofs.Refusing.{scan-first, scan-passed}
 use Rattle.run_spec.specs.Entries.{badArray, workCells}
 use Rattle.report_spec.specs.Printed.{planFor, tooLarge, programChecks, programRefusal}
@@ -62,7 +62,7 @@ module _ (tape : List ℕ) (f : Scan) (e : f ≡ scanning tape) where
   judged-as n r h k = h (planFor c) ∙ ap (λ n. plannedAs n (planFor c)) k
 
   pub scan-refused : (f .refusal ≡ 0 → ⊥) → f .refusal ≡ programRefusal tape
-  unfolding programRefusal programChecks scanChecks
+  unfolding programRefusal programChecks
   scan-refused h = scan-first tape f e h (planningChecks (c .lengths) (c .p) ++ counts)
 
   module _ (h : f .refusal ≡ 0) where
@@ -70,7 +70,7 @@ module _ (tape : List ℕ) (f : Scan) (e : f ≡ scanning tape) where
     told = tells (scanRefusal tape) c f (e ∙ (unfold scanning in refl)) h
 
     passed-scan : programRefusal tape ≡ first (planningChecks (c .lengths) (c .p) ++ counts)
-    unfolding programRefusal programChecks scanChecks
+    unfolding programRefusal programChecks
     passed-scan = scan-passed tape f e h (planningChecks (c .lengths) (c .p) ++ counts)
 
     pub too-many-axes : 8 < f .axes → 3 ≡ programRefusal tape

@@ -24,7 +24,8 @@ use Rattle.plan_spec.proofs.Accepting.{planning-accepted, lists-slotted, slotte
 use Rattle.plan_spec.proofs.Demand.{plan-sound}
 use Rattle.cube_spec.proofs.Dues.{none-both}
 use Rattle.tape_spec.specs.Tapes.{Campaign, campaign}
-use Rattle.tape_spec.specs.Reading.{tooLong, isNone, orEmpty, scanChecks, shortSlice, readingChecks, readingRefusal, filledOr, reading}
+use Rattle.tape_spec.specs.Reading.{orEmpty, scanChecks, shortSlice, readingChecks, readingRefusal, filledOr, reading}
+use Rattle.tape_spec.proofs.Refusing.{none-of-scan, after-scan}
 use Rattle.run_spec.specs.Entries.{badArray, workCells}
 use Rattle.report_spec.specs.Printed.{planFor, tooLarge, programChecks, programRefusal}
 use Rattle.totals_check.specs.Judging.{judging}
@@ -62,15 +63,12 @@ module _ (tape : List ℕ) (judged : Planned) (e : judged ≡ judging tape) wher
     abbrev counts : List Check
     counts = check 10 (badArray (planFor c) (length (c .points))) ∷ check 11 (tooLarge c) ∷ []
 
-    scanned : (tooLong tape ≡ false) × (isNone (campaign tape) ≡ false) × (first (planningChecks (c .lengths) (c .p) ++ counts) ≡ 0)
+    scanned : (first (scanChecks tape) ≡ 0) × (first (planningChecks (c .lengths) (c .p) ++ counts) ≡ 0)
     unfolding programRefusal programChecks
-    scanned =
-        let a = none-first (check 1 (tooLong tape)) (check 2 (isNone (campaign tape)) ∷ (planningChecks (c .lengths) (c .p) ++ counts)) (omega arith) none-due in
-        let b = none-first (check 2 (isNone (campaign tape))) (planningChecks (c .lengths) (c .p) ++ counts) (omega arith) (a .1) in
-        (a .0, b .0, b .1)
+    scanned = none-of-scan tape (planningChecks (c .lengths) (c .p) ++ counts) none-due
 
     parted : (first (planningChecks (c .lengths) (c .p)) ≡ 0) × (first counts ≡ 0)
-    parted = none-both (planningChecks (c .lengths) (c .p)) counts (planning-numbered (c .lengths) (c .p)) (scanned .2)
+    parted = none-both (planningChecks (c .lengths) (c .p)) counts (planning-numbered (c .lengths) (c .p)) (scanned .1)
 
     planned : planningRefusal (c .lengths) (c .p) ≡ 0
     unfolding planningRefusal
@@ -116,11 +114,11 @@ module _ (tape : List ℕ) (judged : Planned) (e : judged ≡ judging tape) wher
     -- filling puts the points at the start
     module _ (old now : List ℤ) (room : length old ≡ 8192) (filled : now ≡ reading tape old) where
       whole : now ≡ c .points ++ drop (length (c .points)) old
-      unfolding reading readingRefusal readingChecks scanChecks first shortSlice filledOr
+      unfolding reading readingRefusal readingChecks first shortSlice filledOr
       whole =
           let f = points-few in
           let s : ltb (length old) (length (c .points)) ≡ false = le-ltb (length old) (length (c .points)) (omega arith) in
-          filled ∙ rw (scanned .0, scanned .1, s) refl
+          filled ∙ rw (after-scan tape _ (scanned .0), s) refl
 
       module _ (n : ℕ) (k : n ≡ points (listsOf (judged .plan) .lengths)) where
         pub loaded : take n now ≡ c .points

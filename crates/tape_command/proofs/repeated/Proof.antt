@@ -1,18 +1,19 @@
 -- `tape_command::repeated` meets its contract. A 52 with its operands, cut short, or of count 0.
-use mathlib.Core.Path.{_∙_, sym}
-use borrow.Author.Needs.{needs}
+use mathlib.Core.Path.{sym, _∙_}
 use mir.Syntax.{w32}
 use mir.Val.{SFits}
 use mir.Facts.{toZ-ofZ}
+use Rattle.tape_reading.specs.Readings.{readingOf}
+use borrow.Author.Needs.{needs}
 use Rattle.tape_spec.proofs.Decoding as laws
-use Rattle.tape_command.proofs.repeated.Tie as tie
 use Rattle.tape_command.proofs.repeated.Statement.{statement}
+use Rattle.tape_command.proofs.repeated.Tie as tie
 
 sub-if1 : tie.Need-sub-if1
 sub-if1 c = search needs
 
 returns : tie.Need-returns
-returns c = let s = c .before .before in laws.repeated-cut _ _ (s .pre .0) (s .pre .1) (c .if1 .taken)
+returns c = let s = c .before .before in (laws.repeated-cut _ _ (s .pre .0) (s .pre .1) (c .if1 .taken), tt)
 
 add-pair : tie.Need-add-pair
 add-pair c = search needs
@@ -23,22 +24,31 @@ pair-requires c κs = search needs
 returns-2 : tie.Need-returns-2
 returns-2 c =
     let s = c .before .before .before .before in
-    laws.repeated-never _ _ (s .pre .0) (s .pre .1) (c .before .before .if1 .left) (sym (c .before .pair .ensures) ∙ c .if2 .taken)
+    (laws.repeated-never _ _ (s .pre .0) (s .pre .1) (c .before .before .if1 .left) (sym (c .before .pair .ensures) ∙ c .if2 .taken), tt)
 
-add-value : tie.Need-add-value
-add-value c = search needs
+cast-t4 : tie.Need-cast-t4
+cast-t4 c = search needs
 
-value-requires : tie.Need-value-requires
-value-requires c κs = search needs
+add-quad : tie.Need-add-quad
+add-quad c = search needs
 
-add-t5 : tie.Need-add-t5
-add-t5 c = search needs
+quad-requires : tie.Need-quad-requires
+quad-requires c κs = search needs
+
+signed-requires : tie.Need-signed-requires
+signed-requires c κs = search needs
+
+add-t9 : tie.Need-add-t9
+add-t9 c = search needs
 
 returns-3 : tie.Need-returns-3
+unfolding readingOf
 returns-3 c =
-    let s = c .before .before .before .before .before in
-    let ok : SFits w32 (c .value .result) = record { sfits = c .value .ok } in
-    rw (toZ-ofZ ok, c .value .ensures) (laws.repeated-told _ _ (s .pre .0) _ (s .pre .1) (c .before .before .before .if1 .left) (c .before .before .pair .ensures) (c .before .if2 .left))
+    let ok : SFits w32 (c .signed .result) = record { sfits = c .signed .ok } in
+    let q = c .before in
+    let k = q .before .before in
+    let s = k .before .before .before in
+    (rw (toZ-ofZ ok, c .signed .ensures, q .quad .ensures) (laws.repeated-told _ _ (s .pre .0) (s .pre .1) _ (k .before .if1 .left) (k .pair .ensures) (q .before .if2 .left)), search needs)
 
 pub repeated-spec : {M : Type 1} → statement M
 repeated-spec =
@@ -49,7 +59,9 @@ repeated-spec =
     add-pair
     pair-requires
     returns-2
-    add-value
-    value-requires
-    add-t5
+    cast-t4
+    add-quad
+    quad-requires
+    signed-requires
+    add-t9
     returns-3)

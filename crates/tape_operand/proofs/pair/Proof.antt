@@ -1,15 +1,15 @@
--- `tape_operand::pair` meets its contract. The sum of the bytes as they are weighed is `little`.
+-- `tape_operand::pair` meets its contract. The sum of the bytes as they are weighed.
 use native.Mathlib.Omega.{arith}
+use Rattle.tape_spec.proofs.Operands as operands
 use borrow.Author.Needs.{needs}
-use Rattle.cube_spec.specs.Bytes.{little}
-use Rattle.tape_operand.proofs.pair.Tie as tie
 use Rattle.tape_operand.proofs.pair.Statement.{statement}
+use Rattle.tape_operand.proofs.pair.Tie as tie
 
 shared-slice-read-wide16 : tie.Need-shared-slice-read-wide16
 shared-slice-read-wide16 c = search needs
 
 wide16-requires : tie.Need-wide16-requires
-wide16-requires c κs = tt
+wide16-requires c κs = search needs
 
 add-wide16 : tie.Need-add-wide16
 add-wide16 c = search needs
@@ -18,7 +18,7 @@ shared-slice-read-wide16-2 : tie.Need-shared-slice-read-wide16-2
 shared-slice-read-wide16-2 c = search needs
 
 wide16-requires-2 : tie.Need-wide16-requires-2
-wide16-requires-2 c κs = tt
+wide16-requires-2 c κs = search needs
 
 mul-result : tie.Need-mul-result
 mul-result c = search needs
@@ -27,8 +27,7 @@ add-result : tie.Need-add-result
 add-result c = search needs
 
 returns : tie.Need-returns
-unfolding little
-returns c = omega arith
+returns c = let s = c .before .before .before .before .before in let e = operands.two (s .args .tape .now) (s .args .at) (s .pre) in omega arith
 
 pub pair-spec : {M : Type 1} → statement M
 pair-spec =

@@ -1,15 +1,15 @@
--- `tape_operand::quad` meets its contract. The sum of the bytes as they are weighed is `little`.
+-- `tape_operand::quad` meets its contract. The sum of the bytes as they are weighed.
 use native.Mathlib.Omega.{arith}
+use Rattle.tape_spec.proofs.Operands as operands
 use borrow.Author.Needs.{needs}
-use Rattle.cube_spec.specs.Bytes.{little}
-use Rattle.tape_operand.proofs.quad.Tie as tie
 use Rattle.tape_operand.proofs.quad.Statement.{statement}
+use Rattle.tape_operand.proofs.quad.Tie as tie
 
 shared-slice-read-wide32 : tie.Need-shared-slice-read-wide32
 shared-slice-read-wide32 c = search needs
 
 wide32-requires : tie.Need-wide32-requires
-wide32-requires c κs = tt
+wide32-requires c κs = search needs
 
 add-wide32 : tie.Need-add-wide32
 add-wide32 c = search needs
@@ -18,7 +18,7 @@ shared-slice-read-wide32-2 : tie.Need-shared-slice-read-wide32-2
 shared-slice-read-wide32-2 c = search needs
 
 wide32-requires-2 : tie.Need-wide32-requires-2
-wide32-requires-2 c κs = tt
+wide32-requires-2 c κs = search needs
 
 add-wide32-2 : tie.Need-add-wide32-2
 add-wide32-2 c = search needs
@@ -27,7 +27,7 @@ shared-slice-read-wide32-3 : tie.Need-shared-slice-read-wide32-3
 shared-slice-read-wide32-3 c = search needs
 
 wide32-requires-3 : tie.Need-wide32-requires-3
-wide32-requires-3 c κs = tt
+wide32-requires-3 c κs = search needs
 
 add-wide32-3 : tie.Need-add-wide32-3
 add-wide32-3 c = search needs
@@ -36,7 +36,7 @@ shared-slice-read-wide32-4 : tie.Need-shared-slice-read-wide32-4
 shared-slice-read-wide32-4 c = search needs
 
 wide32-requires-4 : tie.Need-wide32-requires-4
-wide32-requires-4 c κs = tt
+wide32-requires-4 c κs = search needs
 
 mul-result : tie.Need-mul-result
 mul-result c = search needs
@@ -57,8 +57,7 @@ add-result-3 : tie.Need-add-result-3
 add-result-3 c = search needs
 
 returns : tie.Need-returns
-unfolding little
-returns c = omega arith
+returns c = let s = c .before .before .before .before .before .before .before .before .before in let e = operands.four (s .args .tape .now) (s .args .at) (s .pre) in omega arith
 
 pub quad-spec : {M : Type 1} → statement M
 quad-spec =

@@ -1,18 +1,19 @@
--- `tape_scan::scan` meets its contract. The invariant: the axes and lengths so far with what is left of the tape give the scan.
+-- `tape_scan::scan` meets its contract. The invariant: the axes and lengths so far with the commands that are left give the scan.
 use Prim.Native.Nat.{_-_, _≤_}
-use mathlib.Core.Path.{_≡_, _∙_, sym}
+use mathlib.Core.Path.{_≡_, _∙_, sym, ap}
 use native.Mathlib.Omega.{arith}
 use borrow.Author.Needs.{needs}
 use lib.ListN.{length, drop}
+use Rattle.tape_spec.specs.Tapes.{commands}
+use Rattle.tape_spec.specs.Reading.{scanning}
+use Rattle.tape_spec.specs.Decoding.{meant}
 use Rattle.tape_spec.proofs.Decoding as decoding
 use Rattle.tape_spec.proofs.Scanning as laws
-use Rattle.tape_spec.specs.Tapes.{campaign}
-use Rattle.tape_spec.specs.Reading.{scanning}
 use Rattle.tape_scan.proofs.scan.Tie as tie
 use Rattle.tape_scan.proofs.scan.Statement.{statement}
 
 abbrev Inv-loop : tie.InvT-loop
-Inv-loop tape lengths₀ axes₀ at₀ lengths axes at = (axes ≤ at) × (at ≤ length tape) × (scanning tape ≡ laws.judged axes lengths (campaign (drop at tape)))
+Inv-loop tape lengths₀ axes₀ at₀ lengths axes at = (axes ≤ at) × (at ≤ length tape) × (scanning tape ≡ laws.judged axes lengths (commands (drop at tape)))
 
 abbrev μ-loop : tie.MeasureT-loop
 μ-loop tape lengths₀ axes₀ at₀ lengths axes at = length tape - at
@@ -42,16 +43,16 @@ loop-less : tie.Need-loop-less Inv-loop μ-loop
 loop-less c =
     let s = c .before .before .before .before in
     let t = s .before .before .before .before .args .tape .now in
-    let e = sym (c .before .before .d .given .1) ∙ s .decode .ensures in
-    let m = decoding.moved t (s .before .loop .at) e in
+    let e = sym (ap meant (c .before .before .d .given .1)) ∙ s .decode .ensures .0 in
+    let m = decoding.tells t (s .before .loop .at) e in
     omega arith
 
 loop-again : tie.Need-loop-again Inv-loop μ-loop
 loop-again c =
     let s = c .before .before .before .before in
     let t = s .before .before .before .before .args .tape .now in
-    let e = sym (c .before .before .d .given .1) ∙ s .decode .ensures in
-    let m = decoding.moved t (s .before .loop .at) e in
+    let e = sym (ap meant (c .before .before .d .given .1)) ∙ s .decode .ensures .0 in
+    let m = decoding.tells t (s .before .loop .at) e in
     (omega arith, omega arith, rw (c .put .ensures) (s .before .loop .inv .2 ∙ laws.axis-more t _ _ _ _ _ e))
 
 enum-known-p : tie.Need-enum-known-p Inv-loop μ-loop
@@ -74,25 +75,37 @@ returns-2 c =
     let n = c .before .before .before in
     let q = n .before .before in
     let s = q .before .before in
-    c .refused2 .ensures ∙ laws.boards-broken _ _ _ _ _ _ (sym (q .p .given .1) ∙ s .decode .ensures) (sym (c .before .enum-told .given .1) ∙ n .count .ensures) ∙ sym (s .before .loop .inv .2)
-
-cast-t15 : tie.Need-cast-t15 Inv-loop μ-loop
-cast-t15 c = search needs
-
-returns-3 : tie.Need-returns-3 Inv-loop μ-loop
-returns-3 c =
-    let n = c .before .before .before in
-    let q = n .before .before in
-    let s = q .before .before in
-    laws.boards-whole _ _ _ _ _ _ _ (sym (q .p .given .1) ∙ s .decode .ensures) (sym (c .before .points .given .1) ∙ n .count .ensures) ∙ sym (s .before .loop .inv .2)
+    c .refused2 .ensures ∙ laws.boards-broken _ _ _ _ _ _ (sym (ap meant (q .p .given .1)) ∙ s .decode .ensures .0) (sym (c .before .enum-told .given .1) ∙ n .count .ensures) ∙ sym (s .before .loop .inv .2)
 
 refused-requires-3 : tie.Need-refused-requires-3 Inv-loop μ-loop
 refused-requires-3 c κs = tt
 
+returns-3 : tie.Need-returns-3 Inv-loop μ-loop
+returns-3 c =
+    let k = c .before .before .before in
+    let n = k .before .before in
+    let q = n .before .before in
+    let s = q .before .before in
+    c .refused3 .ensures ∙ laws.boards-refused _ _ _ _ _ _ (sym (ap meant (q .p .given .1)) ∙ s .decode .ensures .0) _ _ (c .before .if2 .taken) (sym (k .points .given .1) ∙ n .count .ensures) ∙ sym (s .before .loop .inv .2)
+
+cast-t17 : tie.Need-cast-t17 Inv-loop μ-loop
+cast-t17 c = search needs
+
 returns-4 : tie.Need-returns-4 Inv-loop μ-loop
 returns-4 c =
+    let k = c .before .before in
+    let n = k .before .before in
+    let q = n .before .before in
+    let s = q .before .before in
+    laws.boards-whole _ _ _ _ _ _ (sym (ap meant (q .p .given .1)) ∙ s .decode .ensures .0) _ (rw (c .if2 .left) at (sym (k .points .given .1) ∙ n .count .ensures)) ∙ sym (s .before .loop .inv .2)
+
+refused-requires-4 : tie.Need-refused-requires-4 Inv-loop μ-loop
+refused-requires-4 c κs = tt
+
+returns-5 : tie.Need-returns-5 Inv-loop μ-loop
+returns-5 c =
     let s = c .before .before in
-    c .refused3 .ensures ∙ laws.no-length _ _ _ _ _ (c .before .match .keys3) (s .decode .ensures) ∙ sym (s .before .loop .inv .2)
+    c .refused4 .ensures ∙ laws.no-length _ _ _ _ (s .decode .result) (c .before .match .keys3) (s .decode .ensures .0) ∙ sym (s .before .loop .inv .2)
 
 pub scan-spec : {M : Type 1} → statement M
 scan-spec =
@@ -115,7 +128,9 @@ scan-spec =
     enum-told
     refused-requires-2
     returns-2
-    cast-t15
-    returns-3
     refused-requires-3
-    returns-4)
+    returns-3
+    cast-t17
+    returns-4
+    refused-requires-4
+    returns-5)

@@ -1,13 +1,13 @@
--- `tape_operand::signed` meets its contract. Both halves of the range are `toZ`; the upper one by the complement of the complement.
+-- `tape_reading::signed` meets its contract. Both halves of the range are `toZ`; the upper one by the complement of the complement.
 use Prim.Native.Nat.{_-_}
 use mathlib.Core.Path.{_≡_, refl, ap}
 use native.Mathlib.Omega.{arith}
-use borrow.Author.Needs.{needs}
 use mir.Syntax.{w32}
 use mir.Val.{toZ}
-use Rattle.tape_spec.specs.Tapes.{signed32}
-use Rattle.tape_operand.proofs.signed.Tie as tie
-use Rattle.tape_operand.proofs.signed.Statement.{statement}
+use Rattle.tape_reading.specs.Readings.{signed32}
+use borrow.Author.Needs.{needs}
+use Rattle.tape_reading.proofs.signed.Statement.{statement}
+use Rattle.tape_reading.proofs.signed.Tie as tie
 
 cast-result : tie.Need-cast-result
 cast-result c = search needs

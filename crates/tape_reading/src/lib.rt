@@ -1,0 +1,196 @@
+// Readings: the point that each gives, in whole centimetres, from the float's bits. No float is added, multiplied or rounded here.
+ghost use mathlib.Core.Path.{_≡_};
+ghost use Prim.Native.Nat.{_*_, _^_, _<_, _≤_};
+ghost use lib.Ieee.{binary32, ofBits};
+ghost use Rattle.tape_reading.specs.Nearest as Nearest;
+ghost use Rattle.tape_reading.specs.Patterns.{parts};
+ghost use Rattle.tape_reading.specs.Readings.{signed32, readingOf, inCentimetres, centimetresOf, answerReply, refusalIn, valueIn, fromBits};
+ghost use Rattle.tape_reading.specs.inner.Taken.{Taken, Refuses};
+use types::Answer;
+use types::Reading;
+
+pub mod types;
+
+// Centimetres in a metre and in a kilometre.
+const METRE: u64 = 100;
+
+const KILOMETRE: u64 = 100000;
+
+// A float's bits without their sign are its size's: larger bits are a larger number, up to those of infinity.
+const SIGN: u32 = 0x80000000;
+
+const INFINITE: u32 = 0x7F800000;
+
+// The largest sizes that are taken.
+const LAST_METRES: u32 = 0x4BA3D70A;
+
+const LAST_KILOMETRES: u32 = 0x46A7C5AC;
+
+// ---- a reading from the operand of its command
+
+// The signed number whose bits are n.
+pub fn signed(n: u32) -> i32
+    ensures { λ r. ⌜ r ≡ signed32 n ⌝ }
+{
+    if n < SIGN {
+        return n as i32;
+    }
+    let m = (4294967295 - n) as i32;
+    !m
+}
+
+// The float whose bits are n; there is one float for all bits that are no number's.
+fn float(n: u32) -> f32
+    ensures { λ r. ⌜ r ≡ ofBits binary32 n ⌝ }
+{
+    if INFINITE < n % SIGN {
+        return 0.0f32 / 0.0f32;
+    }
+    f32::from_bits(n)
+}
+
+// The reading of a command: 4D metres, 4B kilometres, any other whole centimetres.
+pub fn reading_of(command: u8, n: u32) -> Reading
+    ensures { λ r. ⌜ r ≡ readingOf command n ⌝ }
+{
+    match command {
+        0x4D => Reading::Metres(float(n)),
+        0x4B => Reading::Kilometres(float(n)),
+        _ => Reading::Centimetres(signed(n)),
+    }
+}
+
+// ---- refusals, by the size alone: where a number is too far, all larger ones are
+
+// The refusal of a float by its bits, 0 for none.
+fn judged(n: u32, last: u32) -> u8
+    ensures { λ r. ⌜ Refuses r last (λ scale. fromBits scale n) ⌝ }
+{
+    let size = n % SIGN;
+    if size <= last {
+        return 0;
+    }
+    if size < INFINITE {
+        return 15;
+    }
+    14
+}
+
+// The refusal of a command's reading, 0 for none: whole centimetres are never refused. No float is made for it.
+pub fn refusal_of(command: u8, n: u32) -> u8
+    ensures { λ r. ⌜ r ≡ refusalIn (centimetresOf (readingOf command n)) ⌝ }
+{
+    match command {
+        0x4D => judged(n, LAST_METRES),
+        0x4B => judged(n, LAST_KILOMETRES),
+        _ => 0,
+    }
+}
+
+// ---- whole centimetres
+
+// The whole number nearest to n / 2^j, halves to the even one.
+fn rounded(n: u64, j: u32) -> u64
+    requires { ⌜ (1 ≤ j) × (j ≤ 62) × (n < 2 ^ 62) ⌝ }
+    ensures { λ r. ⌜ r ≡ Nearest.nearest n (2 ^ j) ⌝ }
+{
+    let half = 1u64 << (j - 1);
+    let odd = (n >> j) % 2;
+    (n + (half - 1) + odd) >> j
+}
+
+// The whole centimetres of a size that is taken: the field stands above 23 digits. Below field 91 all are under half a centimetre, so the others
+// have their leading one, 2^23.
+fn whole(size: u32, scale: u64) -> u64
+    requires { ⌜ (size ≤ 0x4BA3D70A) × (scale ≤ 100000) ⌝ }
+    ensures { λ r. ⌜ r ≡ Nearest.nearest (parts size * scale) (2 ^ 149) ⌝ }
+{
+    let field = size / 8388608;
+    if field < 91 {
+        return 0;
+    }
+    let mantissa = 8388608 + (size % 8388608) as u64;
+    rounded(8 * mantissa * scale, 153 - field)
+}
+
+// A size with its sign.
+fn with_sign(negative: bool, w: u64) -> i32
+    requires { ⌜ w ≤ 2147483647 ⌝ }
+    ensures { λ r. ⌜ r ≡ Nearest.signed negative w ⌝ }
+{
+    let v = w as i32;
+    if negative {
+        return -v;
+    }
+    v
+}
+
+// The point of a float's bits, 0 for one that is refused.
+fn bits_point(n: u32, scale: u64, last: u32) -> i32
+    requires { ⌜ Taken scale last ⌝ }
+    ensures { λ r. ⌜ r ≡ valueIn (fromBits scale n) ⌝ }
+{
+    let size = n % SIGN;
+    if last < size {
+        return 0;
+    }
+    with_sign(SIGN <= n, whole(size, scale))
+}
+
+// The point of a float, 0 for one that is refused.
+fn float_point(x: f32, scale: u64, last: u32) -> i32
+    requires { ⌜ Taken scale last ⌝ }
+    ensures { λ r. ⌜ r ≡ valueIn (inCentimetres scale x) ⌝ }
+{
+    if x != x {
+        return 0;
+    }
+    bits_point(f32::to_bits(x), scale, last)
+}
+
+// The point of a reading, 0 for one that is refused.
+pub fn point_of(reading: Reading) -> i32
+    ensures { λ r. ⌜ r ≡ valueIn (centimetresOf reading) ⌝ }
+{
+    match reading {
+        Reading::Centimetres(v) => v,
+        Reading::Metres(x) => float_point(x, METRE, LAST_METRES),
+        Reading::Kilometres(x) => float_point(x, KILOMETRE, LAST_KILOMETRES),
+    }
+}
+
+// ---- a reading as a whole
+
+// Whole centimetres from the bits of a float, or the refusal.
+fn from_bits(n: u32, scale: u64, last: u32) -> Answer
+    requires { ⌜ Taken scale last ⌝ }
+    ensures { λ r. ⌜ answerReply r ≡ fromBits scale n ⌝ }
+{
+    let refusal = judged(n, last);
+    if refusal != 0 {
+        return Answer::Refused(refusal);
+    }
+    Answer::Whole(bits_point(n, scale, last))
+}
+
+// Whole centimetres from a float, or the refusal.
+fn from_float(x: f32, scale: u64, last: u32) -> Answer
+    requires { ⌜ Taken scale last ⌝ }
+    ensures { λ r. ⌜ answerReply r ≡ inCentimetres scale x ⌝ }
+{
+    if x != x {
+        return Answer::Refused(14);
+    }
+    from_bits(f32::to_bits(x), scale, last)
+}
+
+// The point that a reading gives, or its refusal.
+pub fn centimetres(reading: Reading) -> Answer
+    ensures { λ r. ⌜ answerReply r ≡ centimetresOf reading ⌝ }
+{
+    match reading {
+        Reading::Centimetres(v) => Answer::Whole(v),
+        Reading::Metres(x) => from_float(x, METRE, LAST_METRES),
+        Reading::Kilometres(x) => from_float(x, KILOMETRE, LAST_KILOMETRES),
+    }
+}
