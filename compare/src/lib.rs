@@ -18,6 +18,7 @@ pub mod price;
 pub mod program;
 pub mod rack;
 pub mod random;
+pub mod reading;
 pub mod report;
 pub mod search;
 pub mod shape;

@@ -1,6 +1,7 @@
 //! Tapes from commands.
 
-use crate::tape::{Run, AXIS, BOARDS, END, POINT, REPEAT};
+use crate::reading::{Reading, Unit};
+use crate::tape::{Run, AXIS, BOARDS, END, KILOMETRES, METRES, POINT, REPEAT};
 
 /// One command with its operands.
 pub type Command = Vec<u8>;
@@ -19,6 +20,14 @@ pub fn point(point: i32) -> Command {
 
 pub fn repeat(Run { count, point }: Run) -> Command {
     [&[REPEAT], &count.to_le_bytes()[..], &point.to_le_bytes()].concat()
+}
+
+pub fn reading(Reading { unit, bits }: Reading) -> Command {
+    let command = match unit {
+        Unit::Metres => METRES,
+        Unit::Kilometres => KILOMETRES,
+    };
+    [&[command], &bits.to_le_bytes()[..]].concat()
 }
 
 pub fn end() -> Command {

@@ -1,14 +1,19 @@
 //! The tape's form: all axis lengths, then p, then points, then the end.
 
 use crate::judge::Refusal;
+use crate::reading::{Reading, Unit};
 
 pub const LONGEST_TAPE: usize = 65_536;
 
 pub const AXIS: u8 = 0x41;
 pub const BOARDS: u8 = 0x42;
 pub const END: u8 = 0x45;
+pub const KILOMETRES: u8 = 0x4b;
+pub const METRES: u8 = 0x4d;
 pub const REPEAT: u8 = 0x52;
 pub const POINT: u8 = 0x56;
+
+pub const COMMANDS: [u8; 7] = [AXIS, BOARDS, END, KILOMETRES, METRES, REPEAT, POINT];
 
 /// One point, standing `count` times in a row.
 #[derive(Clone, Copy, Debug, PartialEq, Eq)]
@@ -37,19 +42,24 @@ impl Tape {
     }
 }
 
+/// The form is judged over the whole tape, and only then its readings.
 pub fn read(bytes: &[u8]) -> Result<Tape, Refusal> {
     if bytes.len() > LONGEST_TAPE {
         return Err(Refusal(1));
     }
-    form(bytes).ok_or(Refusal(2))
+    let (tape, offence) = form(bytes).ok_or(Refusal(2))?;
+    offence.map_or(Ok(tape), Err)
 }
 
+/// What the first reading that is refused is refused for.
+type Offence = Option<Refusal>;
+
 /// `None` wherever the tape departs from its form.
-fn form(bytes: &[u8]) -> Option<Tape> {
+fn form(bytes: &[u8]) -> Option<(Tape, Offence)> {
     let mut rest = Rest(bytes);
     let (lengths, p) = opening(&mut rest)?;
-    let runs = points(&mut rest)?;
-    rest.0.is_empty().then_some(Tape { lengths, p, runs })
+    let (runs, offence) = points(&mut rest)?;
+    rest.0.is_empty().then_some((Tape { lengths, p, runs }, offence))
 }
 
 fn opening(rest: &mut Rest) -> Option<(Vec<u64>, u32)> {
@@ -63,18 +73,34 @@ fn opening(rest: &mut Rest) -> Option<(Vec<u64>, u32)> {
     }
 }
 
-fn points(rest: &mut Rest) -> Option<Vec<Run>> {
-    let mut runs = Vec::new();
+fn points(rest: &mut Rest) -> Option<(Vec<Run>, Offence)> {
+    let (mut runs, mut offence) = (Vec::new(), None);
     loop {
-        let count = match rest.byte()? {
-            POINT => 1,
-            REPEAT => rest.half().filter(|&count| count > 0)?,
-            END => return Some(runs),
-            _ => return None,
+        let (count, point) = match rest.byte()? {
+            POINT => (1, rest.point()?),
+            REPEAT => (rest.half().filter(|&count| count > 0)?, rest.point()?),
+            END => return Some((runs, offence)),
+            command => (1, reading(command, rest.take()?, &mut offence)?),
         };
-        let point = rest.point()?;
         runs.push(Run { count, point });
     }
+}
+
+/// `None` if the command is no reading's. A reading that is refused still counts as a point: the
+/// form is judged first. Kept out of the loop, which stays as fast for whole centimetres.
+#[inline(never)]
+fn reading(command: u8, bytes: [u8; 4], offence: &mut Offence) -> Option<i32> {
+    let unit = match command {
+        METRES => Unit::Metres,
+        KILOMETRES => Unit::Kilometres,
+        _ => return None,
+    };
+    let reading = Reading { unit, bits: u32::from_le_bytes(bytes) };
+    let refused = |refusal| {
+        offence.get_or_insert(refusal);
+        0
+    };
+    Some(reading.centimetres().unwrap_or_else(refused))
 }
 
 /// The bytes not yet read.

@@ -2,7 +2,7 @@
 
 use crate::judge::Refusal;
 
-const LINES: [&str; 13] = [
+const LINES: [&str; 15] = [
     "the tape is longer than 65,536 bytes",
     "the tape departs from its form",
     "there is no axis, there are more than 8, or the number of length bytes is odd",
@@ -16,6 +16,8 @@ const LINES: [&str; 13] = [
     "the points or the boards' cells do not fit into the memory lent for them, 8,192 each in the program",
     "the position is past the last step or follows no finish, or there is no board of that number",
     "a lent result slice has the wrong length",
+    "a reading in metres or kilometres is infinite or not a number",
+    "a reading in metres or kilometres is outside -2,147,483,647 to 2,147,483,647 centimetres",
 ];
 
 /// `None` past the last line of the order.

@@ -34,6 +34,19 @@ fn many(count: u16, point: i32) -> Vec<u8> {
     bytes
 }
 
+const INFINITE: u32 = 0x7f80_0000;
+
+/// The first number of metres past the range; as kilometres it is far past it.
+const FAR: u32 = 0x4ba3_d70b;
+
+fn metres(bits: u32) -> Vec<u8> {
+    [&[0x4d], &one(bits as i32)[1..]].concat()
+}
+
+fn kilometres(bits: u32) -> Vec<u8> {
+    [&[0x4b], &one(bits as i32)[1..]].concat()
+}
+
 /// A tape for these lengths and p, its points spelled already.
 fn whole(lengths: &[u16], p: u8, points: &[u8]) -> Vec<u8> {
     let mut bytes: Vec<u8> = lengths.iter().flat_map(|&length| axis(length)).collect();
@@ -112,9 +125,81 @@ fn refusal_2_every_cut() {
 }
 
 #[test]
+fn refusal_2_of_readings() {
+    let lawful = b"A\x02\0B\x01M\0\0\0\x3eK\0\0\0\x3eE"; // 0.125 m and km
+    accepted(lawful);
+    for length in 0..lawful.len() {
+        refused(&lawful[..length], 2);
+    }
+    refused(b"A\x02\0M\0\0\0\x3eB\x01K\0\0\0\x3eE", 2); // before the 42
+    refused(b"K\0\0\0\x3eA\x02\0B\x01M\0\0\0\x3eE", 2);
+    refused(&[&lawful[..], &kilometres(0)].concat(), 2); // after the 45
+    refused(&[&lawful[..], &metres(0)].concat(), 2);
+    refused(&[&lawful[..], b"M"].concat(), 2);
+    refused(&[&lawful[..], &metres(INFINITE)].concat(), 2);
+}
+
+#[test]
+fn refusals_14_and_15() {
+    for sign in [0, 1 << 31] {
+        for bits in [INFINITE, INFINITE + 1, 0x7fbf_ffff, 0x7fc0_0000, 0x7fff_ffff] {
+            refused(&whole(&[1], 0, &metres(sign | bits)), 14);
+            refused(&whole(&[1], 0, &kilometres(sign | bits)), 14);
+        }
+        for bits in [FAR, INFINITE - 1] {
+            refused(&whole(&[1], 0, &metres(sign | bits)), 15);
+            refused(&whole(&[1], 0, &kilometres(sign | bits)), 15);
+        }
+        accepted(&whole(&[1], 0, &metres(sign | (FAR - 1))));
+    }
+    // As whole centimetres the same bytes are numbers, and so is the lowest.
+    accepted(&whole(&[2], 0, &[one(INFINITE as i32), many(1, FAR as i32)].concat()));
+    accepted(&whole(&[1], 0, &one(i32::MIN)));
+}
+
+/// The first of them on the tape, whichever its number is.
+#[test]
+fn the_first_offending_reading_decides() {
+    let (infinite, far) = (metres(INFINITE), kilometres(FAR));
+    refused(&whole(&[2], 0, &[&infinite[..], &far].concat()), 14);
+    refused(&whole(&[2], 0, &[&far[..], &infinite].concat()), 15);
+    let between = |first: &[u8], last: &[u8]| [first, &many(9, 5), &metres(0), last].concat();
+    refused(&whole(&[12], 0, &between(&infinite, &far)), 14);
+    refused(&whole(&[12], 0, &between(&far, &infinite)), 15);
+}
+
+/// After 1 and 2, wherever the tape departs from its form, and before 3.
+#[test]
+fn readings_are_judged_between_2_and_3() {
+    for (offending, number) in [(metres(INFINITE), 14), (kilometres(FAR), 15)] {
+        refused(&whole(&[], 0, &offending), number);
+        refused(&whole(&[0; 9], 255, &offending), number);
+        refused(&whole(&[65_535, 0], 11, &offending), number);
+        refused(&whole(&[65_535, 65_535], 11, &[points(9000), offending.clone()].concat()), number);
+        let (before, after) = ([many(0, 1), offending.clone()], [offending.clone(), many(0, 1)]);
+        refused(&whole(&[1], 0, &before.concat()), 2);
+        refused(&whole(&[1], 0, &after.concat()), 2);
+        refused(&[whole(&[1], 0, &offending), vec![b'\n']].concat(), 2);
+        let lawful = whole(&[1], 0, &offending);
+        for length in 0..lawful.len() {
+            refused(&lawful[..length], 2);
+        }
+        refused(&whole(&[1], 0, &offending.repeat(13_107)), 1);
+    }
+}
+
+#[test]
+fn readings_of_all_kinds_stand_in_order() {
+    let points = [metres(0x3e00_0000), many(2, 7), kilometres(0xbe00_0000), one(i32::MIN)];
+    let tape = tape::read(&whole(&[5], 0, &points.concat())).unwrap();
+    assert_eq!(tape.points(), [12, 7, 7, -12_500, i32::MIN]);
+    assert_eq!(tape.point_count(), 5);
+}
+
+#[test]
 fn refusal_2_every_other_command_byte() {
     for byte in 0..=255_u8 {
-        if b"ABVRE".contains(&byte) {
+        if b"ABVREMK".contains(&byte) {
             continue;
         }
         refused(&[byte], 2);

@@ -158,6 +158,8 @@ fn refusals_in_plain_words() {
         "8,192 each in the program",
         "past the last step",
         "result slice",
+        "infinite or not a number",
+        "outside -2,147,483,647 to 2,147,483,647",
     ];
     for (number, words) in (1..).zip(words) {
         let answer = compare_on(&["show"], format!("refused {number}\n").as_bytes());
@@ -188,7 +190,7 @@ fn texts_that_are_no_report() {
     fault("\n", 1, "a line 'plan ..' is due, not \"\"");
     fault("Hello world\n", 1, "a line 'plan ..' is due, not \"Hello\"");
     fault("refused 0\n", 1, "the checking order has no line 0");
-    fault("refused 14\n", 1, "the checking order has no line 14");
+    fault("refused 16\n", 1, "the checking order has no line 16");
     fault("refused 300\n", 1, "the checking order has no line 300");
     fault("refused\n", 1, "numbers of 'refused': 0, not 1");
     fault("refused 2", 1, "no line feed ends the line");

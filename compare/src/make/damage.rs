@@ -4,7 +4,7 @@ use super::shapes;
 use super::{campaign, Kind, Maker::Open, Maker::Refused, Tape};
 use crate::random::Random;
 use crate::spell::{self, Command};
-use crate::tape::{Run, AXIS, BOARDS, END, POINT, REPEAT};
+use crate::tape::{Run, AXIS, BOARDS, COMMANDS, END};
 
 pub const KINDS: &[Kind] = &[
     ("cut at any byte", Refused(2, cut)),
@@ -134,12 +134,11 @@ fn unknown_command(random: &mut Random) -> Tape {
 
 /// Near a command, or anything.
 fn any_but_commands(random: &mut Random) -> u8 {
-    let known = [AXIS, BOARDS, END, REPEAT, POINT];
     loop {
-        let near = random.pick(&known) ^ 1 << random.below(8);
+        let near = random.pick(&COMMANDS) ^ 1 << random.below(8);
         let anything = random.next() as u8;
         let byte = random.pick(&[near, anything]);
-        if !known.contains(&byte) {
+        if !COMMANDS.contains(&byte) {
             return byte;
         }
     }

@@ -1,5 +1,6 @@
 #![allow(dead_code)] // Each test file uses a part of it.
 
+pub mod exact;
 pub mod process;
 
 use compare::plan::Plan;
