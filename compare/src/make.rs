@@ -5,6 +5,7 @@ mod accepted;
 mod campaign;
 mod damage;
 mod long;
+mod readings;
 mod refused;
 mod several;
 mod shapes;
@@ -43,8 +44,9 @@ enum Maker {
 type Kind = (&'static str, Maker);
 
 fn kinds() -> impl Iterator<Item = &'static Kind> + Clone {
-    let parts = [accepted::KINDS, long::KINDS, damage::KINDS, refused::KINDS, several::KINDS];
-    parts.into_iter().flatten()
+    let form = [accepted::KINDS, long::KINDS, damage::KINDS];
+    let content = [readings::KINDS, refused::KINDS, several::KINDS];
+    form.into_iter().chain(content).flatten()
 }
 
 pub fn kind_count() -> usize {

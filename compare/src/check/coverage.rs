@@ -10,8 +10,8 @@ pub enum Outcome {
     Refused(u8),
 }
 
-/// The refusals that the program can give.
-const REFUSALS: [u8; 9] = [1, 2, 3, 4, 5, 6, 7, 10, 11];
+/// The refusals that the program can give, in the checking order.
+const REFUSALS: [u8; 11] = [1, 2, 14, 15, 3, 4, 5, 6, 7, 10, 11];
 
 impl Outcome {
     pub fn of(tape: &[u8]) -> Outcome {

@@ -1,10 +1,11 @@
-//! Points for a shape, and their spelling by 56s and 52s.
+//! Points for a shape, and their spelling by 56s, 52s, 4Ds and 4Bs.
 
+use super::readings;
 use crate::judge::PROGRAM_LIMIT;
 use crate::random::Random;
 use crate::shape::Shape;
 use crate::spell::{self, Command};
-use crate::tape::Run;
+use crate::tape::{Run, BOARDS};
 
 /// How points are drawn.
 #[derive(Clone, Copy)]
@@ -43,6 +44,26 @@ impl Values {
     }
 }
 
+/// Which of the points are readings in metres or kilometres: about a third of all.
+#[derive(Clone, Copy)]
+enum Readings {
+    None,
+    Some,
+    All,
+}
+
+const READINGS: [Readings; 4] = [Readings::None, Readings::None, Readings::Some, Readings::All];
+
+impl Readings {
+    fn draw(self, random: &mut Random) -> bool {
+        match self {
+            Readings::None => false,
+            Readings::Some => random.one_in(3),
+            Readings::All => true,
+        }
+    }
+}
+
 /// The tape of a campaign that fits its shape.
 pub fn tape(random: &mut Random, shape: &Shape) -> Vec<u8> {
     let count = shape.points();
@@ -54,27 +75,45 @@ pub fn with_count(random: &mut Random, shape: &Shape, count: u64) -> Vec<u8> {
 }
 
 pub fn commands(random: &mut Random, shape: &Shape, count: u64) -> Vec<Command> {
-    let values = random.pick(&VALUES);
-    let points = points(random, count, values);
+    let (values, readings) = (random.pick(&VALUES), random.pick(&READINGS));
+    let points = points(random, count, values, readings);
     spell::commands(&shape.lengths, shape.p, points)
 }
 
 pub fn tape_of(random: &mut Random, shape: &Shape, values: Values) -> Vec<u8> {
-    let points = points(random, shape.points(), values);
+    let points = points(random, shape.points(), values, Readings::None);
     spell::tape(&shape.lengths, shape.p, points)
 }
 
-pub fn points(random: &mut Random, count: u64, values: Values) -> Vec<Command> {
+fn points(random: &mut Random, count: u64, values: Values, readings: Readings) -> Vec<Command> {
     let longest = longest_run(random, count);
     let mut left = count;
     let mut points = Vec::new();
     while left > 0 {
         let run = run_length(random, longest.min(left));
-        let point = values.draw(random);
-        points.push(spelled(random, Run { count: run as u16, point }));
+        // A command for each of more points would make too long a tape.
+        if run <= PROGRAM_LIMIT && readings.draw(random) {
+            points.extend((0..run).map(|_| spell::reading(readings::taken(random))));
+        } else {
+            let point = values.draw(random);
+            points.push(spelled(random, Run { count: run as u16, point }));
+        }
         left -= run;
     }
     points
+}
+
+/// Anywhere between the p and the end; gives the place.
+pub fn insert_after_p(random: &mut Random, commands: &mut Vec<Command>, command: Command) -> usize {
+    let (first, end) = (boards_at(commands) + 1, commands.len() - 1);
+    let at = random.between(first as u64, end as u64) as usize;
+    commands.insert(at, command);
+    at
+}
+
+pub fn boards_at(commands: &[Command]) -> usize {
+    let at = commands.iter().position(|command| command[0] == BOARDS);
+    at.expect("a lawful tape has a p")
 }
 
 /// Long enough for a tape of lawful length, also of 600 million points.

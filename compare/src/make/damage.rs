@@ -1,8 +1,9 @@
 //! Tapes that depart from their form, or may do so.
 
-use super::shapes;
-use super::{campaign, Kind, Maker::Open, Maker::Refused, Tape};
+use super::campaign::{self, boards_at, insert_after_p};
+use super::{readings, shapes, Kind, Maker::Open, Maker::Refused, Tape};
 use crate::random::Random;
+use crate::reading::{Reading, UNITS};
 use crate::spell::{self, Command};
 use crate::tape::{Run, AXIS, BOARDS, COMMANDS, END};
 
@@ -14,6 +15,10 @@ pub const KINDS: &[Kind] = &[
     ("second p", Refused(2, second_p)),
     ("axis after p", Refused(2, axis_after_p)),
     ("point before p", Refused(2, point_before_p)),
+    ("reading before p", Refused(2, reading_before_p)),
+    ("reading after the end", Refused(2, reading_after_end)),
+    ("cut within a reading", Refused(2, cut_in_reading)),
+    ("reading too short", Refused(2, short_reading)),
     ("commands swapped", Refused(2, swapped)),
     ("commands swapped", Refused(2, swapped)),
     ("byte after the end", Refused(2, byte_after_end)),
@@ -53,11 +58,6 @@ fn part(command: &Command) -> u8 {
     }
 }
 
-fn boards_at(commands: &[Command]) -> usize {
-    let at = commands.iter().position(|command| command[0] == BOARDS);
-    at.expect("a lawful tape has a p")
-}
-
 /// No strict beginning of a lawful tape is one: its end comes last.
 fn cut(random: &mut Random) -> Tape {
     let mut tape = lawful(random).concat();
@@ -79,22 +79,64 @@ fn axis_after_p(random: &mut Random) -> Tape {
     after_p(random, |random| spell::axis(random.between(1, 3) as u16))
 }
 
-/// Anywhere between the p and the end.
 fn after_p(random: &mut Random, command: fn(&mut Random) -> Command) -> Tape {
     let mut commands = lawful(random);
-    let at = random.between(boards_at(&commands) as u64 + 1, commands.len() as u64 - 1);
     let command = command(random);
-    commands.insert(at as usize, command);
+    insert_after_p(random, &mut commands, command);
     commands.concat()
 }
 
 fn point_before_p(random: &mut Random) -> Tape {
-    let mut commands = lawful(random);
-    let at = random.index(boards_at(&commands) + 1);
     let run = Run { count: 1, point: random.next() as i32 };
     let point = random.pick(&[spell::point(run.point), spell::repeat(run)]);
+    before_p(random, point)
+}
+
+fn reading_before_p(random: &mut Random) -> Tape {
+    let reading = any_reading(random);
+    before_p(random, reading)
+}
+
+fn before_p(random: &mut Random, point: Command) -> Tape {
+    let mut commands = lawful(random);
+    let at = random.index(boards_at(&commands) + 1);
     commands.insert(at, point);
     commands.concat()
+}
+
+/// Taken or not: the form is judged first.
+fn any_reading(random: &mut Random) -> Command {
+    let any = Reading { unit: random.pick(&UNITS), bits: random.next() as u32 };
+    let taken = readings::taken(random);
+    let number = random.pick(&[14, 15]);
+    let offending = readings::offending(random, number);
+    spell::reading(random.pick(&[any, taken, offending]))
+}
+
+fn reading_after_end(random: &mut Random) -> Tape {
+    let reading = any_reading(random);
+    after_end(random, &reading)
+}
+
+/// A lawful tape up to its end, the last point a reading.
+fn up_to_end(random: &mut Random) -> Tape {
+    let mut commands = lawful(random);
+    commands.pop();
+    commands.push(any_reading(random));
+    commands.concat()
+}
+
+fn cut_in_reading(random: &mut Random) -> Tape {
+    let mut tape = up_to_end(random);
+    tape.truncate(tape.len() - random.between(1, 4) as usize);
+    tape
+}
+
+/// The end is taken for a byte of it.
+fn short_reading(random: &mut Random) -> Tape {
+    let mut tape = cut_in_reading(random);
+    tape.push(END);
+    tape
 }
 
 fn swapped(random: &mut Random) -> Tape {
@@ -118,11 +160,7 @@ fn after_end(random: &mut Random, bytes: &[u8]) -> Tape {
 }
 
 fn count_0(random: &mut Random) -> Tape {
-    let mut commands = lawful(random);
-    let at = random.between(boards_at(&commands) as u64 + 1, commands.len() as u64 - 1);
-    let nothing = Run { count: 0, point: random.next() as i32 };
-    commands.insert(at as usize, spell::repeat(nothing));
-    commands.concat()
+    after_p(random, |random| spell::repeat(Run { count: 0, point: random.next() as i32 }))
 }
 
 fn unknown_command(random: &mut Random) -> Tape {
@@ -175,11 +213,12 @@ fn any_commands(random: &mut Random) -> Tape {
 
 fn any_command(random: &mut Random) -> Command {
     let run = Run { count: random.below(4) as u16, point: random.next() as i32 };
-    match random.below(8) {
+    match random.below(9) {
         0..=2 => spell::axis(random.below(4) as u16),
         3 => spell::boards(random.below(13) as u8),
         4 => spell::end(),
         5 => spell::repeat(run),
+        6 => any_reading(random),
         _ => spell::point(run.point),
     }
 }

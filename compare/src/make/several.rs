@@ -1,7 +1,7 @@
 //! Tapes for which several refusals are due at once.
 
 use super::long::points_of_length;
-use super::{campaign, Kind, Maker::Several, Tape};
+use super::{campaign, readings, Kind, Maker::Several, Tape};
 use crate::random::Random;
 use crate::shape::Shape;
 use crate::spell::{self, Command};
@@ -15,9 +15,15 @@ pub const KINDS: &[Kind] = &[
     ("two to four flaws", Several(some)),
     ("every flaw from one on", Several(every_from_one_on)),
     ("every flaw from one on", Several(every_from_one_on)),
+    ("offending readings of both kinds", Several(|random| with(random, &[14, 15]))),
+    ("offending reading, too long", Several(|random| with_reading(random, &[1]))),
+    ("offending reading, broken form", Several(|random| with_reading(random, &[2]))),
+    ("offending reading, broken form", Several(|random| with_reading(random, &[2]))),
+    ("offending reading, a later flaw", Several(|random| with_reading(random, &FLAWS[4..]))),
 ];
 
-const FLAWS: [u8; 9] = [1, 2, 3, 4, 5, 6, 7, 10, 11];
+/// In the checking order; of 14 and 15 the one that comes first on the tape is due.
+const FLAWS: [u8; 11] = [1, 2, 14, 15, 3, 4, 5, 6, 7, 10, 11];
 
 fn some(random: &mut Random) -> (Tape, u8) {
     let mut flaws = FLAWS.to_vec();
@@ -31,23 +37,29 @@ fn every_from_one_on(random: &mut Random) -> (Tape, u8) {
     with(random, &FLAWS[first..])
 }
 
-/// The least number is the one due.
+/// A reading that is refused beside one of some other flaws.
+fn with_reading(random: &mut Random, others: &[u8]) -> (Tape, u8) {
+    let flaws = [random.pick(&[14, 15]), random.pick(others)];
+    with(random, &flaws)
+}
+
 fn with(random: &mut Random, flaws: &[u8]) -> (Tape, u8) {
-    let due = *flaws.iter().min().expect("there is a flaw");
     let has = |flaw: u8| flaws.contains(&flaw);
     let lengths = lengths(random, &has);
     let p = p(random, &lengths, &has);
     let shape = Shape { lengths, p };
     let count = count(random, &shape, &has);
     let mut commands = campaign::commands(random, &shape, count);
+    let offence = offend(random, &mut commands, &has);
     if has(1) {
         lengthen(random, &mut commands);
     }
-    let mut tape = commands.concat();
     if has(2) {
-        break_form(random, &mut tape);
+        break_form(random, &mut commands);
     }
-    (tape, due)
+    let first = FLAWS.into_iter().find(|&flaw| has(flaw)).expect("there is a flaw");
+    let due = if first < 14 { first } else { offence.expect("a reading is refused") };
+    (commands.concat(), due)
 }
 
 type Has<'a> = &'a dyn Fn(u8) -> bool;
@@ -92,6 +104,17 @@ fn count(random: &mut Random, shape: &Shape, has: Has) -> u64 {
     }
 }
 
+/// The refusal of the first offending reading on the tape, if any is put there.
+fn offend(random: &mut Random, commands: &mut Vec<Command>, has: Has) -> Option<u8> {
+    let mut first: Option<(usize, u8)> = None;
+    for number in [14, 15].into_iter().filter(|&number| has(number)) {
+        let reading = readings::offending(random, number);
+        let at = campaign::insert_after_p(random, commands, spell::reading(reading));
+        first = first.filter(|&(place, _)| place < at).or(Some((at, number)));
+    }
+    first.map(|(_, number)| number)
+}
+
 /// More points, well past the longest tape.
 fn lengthen(random: &mut Random, commands: &mut Vec<Command>) {
     let bytes = LONGEST_TAPE + random.index(9_000);
@@ -100,10 +123,13 @@ fn lengthen(random: &mut Random, commands: &mut Vec<Command>) {
     commands.splice(before_end..before_end, more);
 }
 
-fn break_form(random: &mut Random, tape: &mut Tape) {
-    match random.below(3) {
-        0 => drop(tape.pop()),
-        1 => tape.push(b'\n'),
-        _ => tape.extend(spell::repeat(Run { count: 0, point: 0 })),
+/// At the end, or anywhere.
+fn break_form(random: &mut Random, commands: &mut Vec<Command>) {
+    let nothing = spell::repeat(Run { count: 0, point: 0 });
+    match random.below(5) {
+        0 => drop(commands.pop()),
+        1 => commands.push(b"\n".to_vec()),
+        2 => commands.push(nothing),
+        _ => commands.insert(random.index(commands.len() + 1), nothing),
     }
 }
