@@ -8,14 +8,19 @@
 //! 4 5*2            # 5*2: the point 5 twice
 //! ```
 //!
-//! Commas, semicolons, blanks and line ends part numbers, so a CSV file will do.
+//! A point may have its unit: 125cm, or 1.25m or 0.00125km as older sets log it, which stands in
+//! single precision on the tape. Commas, semicolons, blanks and line ends part numbers, so a CSV
+//! file will do.
 
 mod fields;
+mod numbers;
+mod point;
 mod reader;
 
 use std::io::{self, Read, Write};
 
 use crate::fault::Fault;
+use crate::reading::Reading;
 use crate::spell::{self, Command};
 use crate::tape::Run;
 use crate::{totals, words};
@@ -31,7 +36,14 @@ pub struct Description {
 #[derive(Clone, Copy, Debug, PartialEq, Eq)]
 pub struct Equal {
     pub count: u64,
-    pub point: i32,
+    pub point: Point,
+}
+
+/// As it is written: what a reading gives is for the tape's reader to work out.
+#[derive(Clone, Copy, Debug, PartialEq, Eq)]
+pub enum Point {
+    Centimetres(i32),
+    Logged(Reading),
 }
 
 /// Nothing is written before the whole text is read and found right.
@@ -68,15 +80,23 @@ impl Description {
     }
 }
 
-/// A 52 is shorter than two 56s, and a 56 is shorter than a 52 of one.
 fn shortest(equal: &Equal) -> Vec<Command> {
+    match equal.point {
+        Point::Centimetres(point) => repeated(equal.count, point),
+        // A 52 repeats centimetres only.
+        Point::Logged(reading) => vec![spell::reading(reading); equal.count as usize],
+    }
+}
+
+/// A 52 is shorter than two 56s, and a 56 is shorter than a 52 of one.
+fn repeated(count: u64, point: i32) -> Vec<Command> {
     let longest = u64::from(u16::MAX);
-    let (full, rest) = (equal.count / longest, (equal.count % longest) as u16);
-    let repeat = |count| spell::repeat(Run { count, point: equal.point });
+    let (full, rest) = (count / longest, (count % longest) as u16);
+    let repeat = |count| spell::repeat(Run { count, point });
     let mut commands = vec![repeat(u16::MAX); full as usize];
     match rest {
         0 => {}
-        1 => commands.push(spell::point(equal.point)),
+        1 => commands.push(spell::point(point)),
         _ => commands.push(repeat(rest)),
     }
     commands

@@ -28,6 +28,11 @@ A report is what is printed for a tape. A campaign as text, for example:
     1 -2 3          # points, row-major in axis order, the last axis fastest
     4 5*2           # 5*2 is the point 5 twice
 
+A point is a number of whole centimetres (125 or 125cm), or of metres or kilometres as older
+sets log them (1.25m or 0.00125km): these go onto the tape in single precision, and whoever
+reads it takes the nearest whole centimetre, of two the even one. No blank parts a number from
+its unit, and a decimal point is no comma.
+
 Blanks, commas, semicolons and line ends part numbers, # starts a comment. A CSV file from
 a spreadsheet will do; its lines may end in empty fields.
 ";

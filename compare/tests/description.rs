@@ -20,6 +20,13 @@ fn fault(description: &str, line: usize, says: &str) {
     assert_eq!((fault.line, fault.says.as_str()), (line, says));
 }
 
+/// The fault of a line of points, with what to write instead.
+#[track_caller]
+fn no_point(points: &str, says: &str) {
+    let forms = "write whole centimetres (125), metres (1.25m) or kilometres (0.00125km)";
+    fault(&format!("lengths 2\np 1\n{points}"), 3, &format!("{says}: {forms}"));
+}
+
 const WORKED: &str = "lengths 2 3\np 1\n1 -2 3 4 5 -6\n";
 
 fn worked() -> (Vec<u64>, u32, Vec<i32>) {
@@ -74,13 +81,93 @@ fn fields_that_are_no_numbers() {
     fault("lengths 2 3\np 1\n1,,3\n4,5,6", 3, gap);
     fault("lengths 2 3\np 1\n1,2,3\n,5,6", 4, gap);
     fault("lengths 2 3\np 1\n1,\"\",3", 3, gap);
-    fault("lengths 2\np 1\n\"1,234\",2", 3, "\"1,234\" is no whole number");
-    fault("lengths 2\np 1\n\"1 234\",2", 3, "\"1 234\" is no whole number");
-    fault("lengths 2\np 1\n1.5,2", 3, "\"1.5\" is no whole number");
     fault("lengths 2\np 1\n1,\"2", 3, "a quote does not end on its line");
-    fault("lengths 2\np 1\nA-G,1,2", 3, "\"A-G\" is no whole number");
-    fault("lengths 2\np 1\n1 2\u{2212}3", 3, "\"2\u{2212}3\" is no whole number");
-    fault("lengths 2\np 1\n1 - 2", 3, "\"-\" is no whole number");
+    no_point("\"1,234\",2", "\"1,234\" is no point");
+    no_point("\"1 234\",2", "\"1 234\" is no point");
+    no_point("A-G,1,2", "\"A-G\" is no point");
+    no_point("1 2\u{2212}3", "\"2\u{2212}3\" is no point");
+    no_point("1 - 2", "\"-\" is no point");
+    no_point("*7", "\"\" is no point");
+}
+
+/// The tape's bytes after the p and before the end.
+#[track_caller]
+fn spelled(points: &str) -> Vec<u8> {
+    let text = format!("lengths 2\np 1\n{points}");
+    let tape = read(text.as_bytes()).unwrap().tape();
+    tape[5..tape.len() - 1].to_vec()
+}
+
+/// Four bytes of a float by hand: 1.25 is 0x3fa00000, -0.125 is 0xbe000000.
+#[test]
+fn units() {
+    assert_eq!(spelled("125 125cm"), b"R\x02\0\x7d\0\0\0");
+    assert_eq!(spelled("-3cm"), b"V\xfd\xff\xff\xff");
+    assert_eq!(spelled("1.25m"), b"M\0\0\xa0\x3f");
+    assert_eq!(spelled("1.25km"), b"K\0\0\xa0\x3f");
+    assert_eq!(spelled("-0.125m -.125km"), b"M\0\0\0\xbeK\0\0\0\xbe");
+    for one in ["1.25m", "+1.25m", "01.250m", "125e-2m", "0.0125E2m", "\"1.25m\"", "1.25m*1"] {
+        assert_eq!(spelled(one), b"M\0\0\xa0\x3f", "{one}");
+    }
+    assert_eq!(spelled("0m -0m"), b"M\0\0\0\0M\0\0\0\x80");
+    assert_eq!(spelled("1m 1.m"), b"M\0\0\x80\x3f".repeat(2));
+    assert_eq!(spelled("3.4028235e38km"), b"K\xff\xff\x7f\x7f");
+    assert_eq!(spelled("1e-45m 1e-60m"), b"M\x01\0\0\0M\0\0\0\0");
+}
+
+/// Halfway between two singles a decimal goes to the even one, and just past it to the other.
+#[test]
+fn the_nearest_single_is_taken() {
+    assert_eq!(spelled("16777217m"), b"M\0\0\x80\x4b");
+    assert_eq!(spelled("16777217.000000000000000000001m"), b"M\x01\0\x80\x4b");
+    assert_eq!(spelled("16777219m"), b"M\x02\0\x80\x4b");
+}
+
+/// A 52 repeats centimetres only, and a reading stays as it is logged.
+#[test]
+fn readings_are_written_one_by_one() {
+    assert_eq!(spelled("1.25m*3"), b"M\0\0\xa0\x3f".repeat(3));
+    assert_eq!(spelled("1.25m 1.25m\n1.25m"), b"M\0\0\xa0\x3f".repeat(3));
+    assert_eq!(spelled("1.25km*2"), b"K\0\0\xa0\x3f".repeat(2));
+    assert_eq!(spelled("125 1.25m 125"), b"V\x7d\0\0\0M\0\0\xa0\x3fV\x7d\0\0\0");
+    assert_eq!(spelled("125*2 1.25m*65535").len(), 7 + 5 * 65_535);
+    let says = "a count of metres or kilometres is from 1 to 65535, not \"65536\"";
+    fault("lengths 2\np 1\n1.25m*65536", 3, says);
+    fault("lengths 2\np 1\n1.25m*", 3, "\"\" is no whole number");
+}
+
+#[test]
+fn units_in_csv() {
+    let text = b"lengths,2,3\r\np,1\r\n0.01m,-0.00002km,3cm,# mixed\r\n\"4\",\"0.05m\",-6,\r\n";
+    assert_eq!(told(text), worked());
+}
+
+#[test]
+fn faults_of_units() {
+    no_point("1.25", "\"1.25\" has no unit");
+    no_point("1e3", "\"1e3\" has no unit");
+    no_point("1.25 m", "\"1.25\" has no unit");
+    no_point("125 m", "\"m\" is a unit without its number");
+    no_point("125,km", "\"km\" is a unit without its number");
+    no_point("\"1.25 m\"", "\"1.25 m\" has a blank before its unit");
+    no_point("\"125 cm\"", "\"125 cm\" has a blank before its unit");
+    no_point("1.25cm", "\"1.25cm\" is no whole number of centimetres");
+    for word in ["5mm", "1.25M", "1.25Km", "2ft", "1.25\u{b5}m", "3metres"] {
+        no_point(word, &format!("\"{word}\" has a unit that is not known"));
+    }
+    for word in ["inf", "-inf", "nan", "NaN", "infm", "infinitym", "-nankm", "0x10m", "1_0m", "e5m"]
+    {
+        no_point(word, &format!("\"{word}\" is no point"));
+    }
+    for word in ["1e39", "-1e39", "3.4028236e38"] {
+        let says =
+            format!("\"{word}\" is past single precision: write -3.4028235e38 to 3.4028235e38");
+        fault(&format!("lengths 2\np 1\n1\n{word}m"), 4, &says);
+        fault(&format!("lengths 2\np 1\n{word}km"), 3, &says);
+    }
+    let point = "a point is from -2147483648 to 2147483647, not \"2147483648\"";
+    fault("lengths 2\np 1\n2147483648cm", 3, point);
+    fault("lengths 2m\np 1\n1 2", 1, "\"2m\" is no whole number");
 }
 
 #[test]
@@ -98,7 +185,8 @@ fn faults_of_the_opening() {
     fault("lengths 2\np 1\n1 2\nP 1\n", 4, "'p' stands twice");
     fault("lengths 2\np\n1 2\n", 2, "'p' takes one number, not 0");
     fault("lengths 2\np 1 2\n1 2\n", 2, "'p' takes one number, not 2");
-    fault("length 2\np 1\n", 1, "\"length\" is no whole number");
+    let unknown = read(b"length 2\np 1\n").unwrap_err();
+    assert!(unknown.line == 1 && unknown.says.starts_with("\"length\" is no point: "));
     fault("lengths 2 x\np 1\n", 1, "\"x\" is no whole number");
     fault("lengths 2\np one\n", 2, "\"one\" is no whole number");
 }
@@ -119,7 +207,6 @@ fn numbers_out_of_range() {
         fault(&format!("lengths 2\np 1\n7*{word}"), 3, &count(word));
     }
     fault("lengths 2\np 1\n7*", 3, "\"\" is no whole number");
-    fault("lengths 2\np 1\n*7", 3, "\"\" is no whole number");
     fault("lengths 2\np 1\n7*2*3", 3, "\"2*3\" is no whole number");
     let extremes = told(b"lengths 65535 0\np 255\n-2147483648 2147483647");
     assert_eq!(extremes, (vec![65_535, 0], 255, vec![i32::MIN, i32::MAX]));
@@ -149,7 +236,8 @@ fn equal_points_become_runs() {
 #[test]
 fn a_fault_leaves_the_output_empty() {
     let answer = compare_on(&["tape"], b"lengths 2\np 1\n1\nx\n");
-    assert_eq!(text(&answer.errors), "compare: line 4: \"x\" is no whole number\n");
+    let errors = text(&answer.errors);
+    assert!(errors.starts_with("compare: line 4: \"x\" is no point: ") && errors.ends_with(")\n"));
     assert!(answer.output.is_empty());
     assert_eq!(answer.status.code(), Some(1));
     let tape = compare_on(&["tape"], WORKED.as_bytes()).output;
@@ -172,6 +260,8 @@ fn a_refusal_to_come_is_told() {
         (7, "lengths 3 2\np 3\n1*6", "(2 axes, 6 points, "),
         (10, "lengths 2 3\np 1\n1 2 3 4 5", "(2 axes, 5 points, "),
         (11, eight_thousand.as_str(), "8,192 each in the program"),
+        (15, "lengths 2\np 1\n1 21474838m", "outside -2,147,483,647 to 2,147,483,647 centimetres"),
+        (15, "lengths 2\np 1\n-21474.838km 0m", "(1 axes, 2 points, 16 bytes)"),
     ];
     for (number, description, says) in refused {
         let answer = compare_on(&["tape"], description.as_bytes());

@@ -1,10 +1,9 @@
 //! Line by line, up to the first fault.
 
-use std::num::IntErrorKind::{NegOverflow, PosOverflow};
-use std::ops::RangeInclusive;
-
+use super::numbers::whole;
+use super::point::equal;
 use super::{fields, Description, Equal};
-use crate::fault::{quoted, Fault};
+use crate::fault::Fault;
 
 pub fn read(text: &[u8]) -> Result<Description, Fault> {
     let text = plain(text);
@@ -90,24 +89,5 @@ impl Reader {
         self.is_opened("in the text")?;
         let (lengths, p) = (self.lengths.unwrap_or_default(), self.p.unwrap_or_default());
         Ok(Description { lengths, p, points: self.points })
-    }
-}
-
-/// VALUE or VALUE*COUNT.
-fn equal(word: &str) -> Result<Equal, String> {
-    let (value, count) = word.split_once('*').unwrap_or((word, "1"));
-    let point = whole(value, "a point", i32::MIN.into()..=i32::MAX.into())? as i32;
-    let count = whole(count, "a count", 1..=u32::MAX.into())? as u64;
-    Ok(Equal { count, point })
-}
-
-fn whole(word: &str, what: &str, range: RangeInclusive<i64>) -> Result<i64, String> {
-    let (least, most) = (range.start(), range.end());
-    let outside = || format!("{what} is from {least} to {most}, not {}", quoted(word));
-    match word.parse() {
-        Ok(number) if range.contains(&number) => Ok(number),
-        Ok(_) => Err(outside()),
-        Err(error) if matches!(error.kind(), PosOverflow | NegOverflow) => Err(outside()),
-        Err(_) => Err(format!("{} is no whole number", quoted(word))),
     }
 }
