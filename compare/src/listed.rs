@@ -6,7 +6,7 @@ use crate::plan::Plan;
 use crate::rack::Rack;
 use crate::random::Random;
 use crate::steps::{self, Step};
-use crate::table::{all, list};
+use crate::table::{all, list, signed};
 
 struct Case {
     name: &'static str,
@@ -142,11 +142,7 @@ fn bracketed(items: &[u64]) -> String {
 }
 
 fn cells(cells: &[i64]) -> String {
-    let signed = |&cell: &i64| match cell {
-        0.. => format!("pos {cell}"),
-        _ => format!("negsuc {}", -(cell + 1)),
-    };
-    let cells: Vec<String> = cells.iter().map(signed).collect();
+    let cells: Vec<String> = cells.iter().map(|&cell| signed(cell)).collect();
     format!("({})", list(&cells))
 }
 

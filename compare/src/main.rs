@@ -4,7 +4,7 @@ use std::{env, io};
 
 use compare::judge::Refusal;
 use compare::plan::{planned, Plan};
-use compare::{bench, check, description, listed, make, price, show, table, totals};
+use compare::{bench, check, description, listed, make, patterns, price, show, table, totals};
 
 const USAGE: &str = "\
 usage: compare totals                   tape on standard input, totals on standard output
@@ -18,7 +18,8 @@ usage: compare totals                   tape on standard input, totals on standa
        compare bench [PROGRAM]          time the largest campaigns, each as a whole process
        compare table TOPIC              cases for the definitions, as an antt module:
                                         tapes (with their output), steps (with what is
-                                        held) or memory (after each step)
+                                        held), memory (after each step) or readings
+                                        (with what each gives)
 
 A report is what is printed for a tape. A campaign as text, for example:
 
@@ -71,6 +72,7 @@ fn module(topic: &str) -> Option<String> {
         "tapes" => Some(table::module()),
         "steps" => Some(listed::steps_module()),
         "memory" => Some(listed::memory_module()),
+        "readings" => Some(patterns::module()),
         _ => None,
     }
 }

@@ -22,10 +22,10 @@ pub struct Reading {
 pub const LARGEST: i32 = i32::MAX;
 
 impl Unit {
-    fn in_centimetres(self) -> f64 {
+    pub fn in_centimetres(self) -> u32 {
         match self {
-            Unit::Metres => 100.0,
-            Unit::Kilometres => 100_000.0,
+            Unit::Metres => 100,
+            Unit::Kilometres => 100_000,
         }
     }
 }
@@ -38,7 +38,7 @@ impl Reading {
     /// The whole centimetre nearest to the exact value, halves to the even one; or refusal 14 or 15.
     pub fn centimetres(self) -> Result<i32, Refusal> {
         // 24 bits times 17 fit into the 53 of a double, so the product is exact.
-        let exact = f64::from(f32::from_bits(self.bits)) * self.unit.in_centimetres();
+        let exact = f64::from(f32::from_bits(self.bits)) * f64::from(self.unit.in_centimetres());
         if !exact.is_finite() {
             return Err(Refusal(14));
         }

@@ -2,10 +2,12 @@
 //! what it refuses, as an antt module.
 
 use crate::judge::Refusal;
-use crate::spell;
+use crate::reading::{Reading, Unit};
+use crate::spell::{self, Command};
 use crate::tape::{Run, LONGEST_TAPE};
 use crate::totals;
 
+#[derive(Clone)]
 struct Case {
     name: &'static str,
     says: &'static str,
@@ -31,7 +33,7 @@ pub record Limit : Type 0 where
 ";
 
 pub fn module() -> String {
-    let (cases, limits) = (cases(), limits());
+    let (cases, limits) = (cases(), [limits(), refused_for_a_reading()].concat());
     let mut text = OPENING.to_string();
     cases.iter().for_each(|case| text.push_str(&declared(case)));
     text += &all("cases", "Case", cases.iter().map(|case| case.name));
@@ -81,6 +83,14 @@ pub fn list<T: std::fmt::Display>(items: &[T]) -> String {
     items + "[]"
 }
 
+/// A whole number as the definitions have it.
+pub fn signed(number: i64) -> String {
+    match number {
+        0.. => format!("pos {number}"),
+        _ => format!("negsuc {}", -(number + 1)),
+    }
+}
+
 fn quoted(bytes: &[u8]) -> String {
     let text = String::from_utf8(bytes.to_vec()).expect("what is printed is ASCII");
     format!("\"{}\"", text.replace('\n', "\\n"))
@@ -93,6 +103,14 @@ fn tape(lengths: &[u16], p: u8, points: &[i32]) -> Vec<u8> {
 
 fn repeated(count: u16, point: i32) -> Vec<u8> {
     spell::repeat(Run { count, point })
+}
+
+fn metres(value: f32) -> Command {
+    spell::reading(Reading::new(Unit::Metres, value))
+}
+
+fn kilometres(value: f32) -> Command {
+    spell::reading(Reading::new(Unit::Kilometres, value))
 }
 
 fn without_end(mut tape: Vec<u8>) -> Vec<u8> {
@@ -138,7 +156,18 @@ fn accepted() -> Vec<Case> {
             "lengths 2, 3, 2, p 1: the middle axis longest, negative points",
             tape(&[2, 3, 2], 1, &[-1, -2, -3, -4, -5, -6, -7, -8, -9, 10, 11, -12]),
         ),
+        case(
+            "readings-of-all-kinds",
+            "lengths 2, 3, p 1: points by a 4D, a 52, a 4B, a 4D and a 56",
+            spell::tape(&[2, 3], 1, readings_of_all_kinds()),
+        ),
     ]
+}
+
+/// 38, -7 twice, -1562, -100 and 5 centimetres: a tie, a tie, and just less than a half.
+fn readings_of_all_kinds() -> Vec<Command> {
+    let (one, two) = (metres(0.375), repeated(2, -7));
+    vec![one, two, kilometres(-0.015625), metres(-1.005), spell::point(5)]
 }
 
 fn refused() -> Vec<Case> {
@@ -238,5 +267,43 @@ fn limits() -> Vec<Case> {
         ),
         case("longest-tape", "refused 2: 65536 bytes, and no command", vec![0; LONGEST_TAPE]),
         case("one-byte-more", "refused 1: 65537 bytes, and no command", vec![0; LONGEST_TAPE + 1]),
+    ]
+}
+
+/// Judged right after the form, the first of several deciding.
+fn refused_for_a_reading() -> Vec<Case> {
+    let case = |name, says, tape| Case { name, says, tape };
+    let (infinite, far) = (|| metres(f32::NEG_INFINITY), || kilometres(21_474.838));
+    vec![
+        case(
+            "infinite-reading",
+            "refused 14: an infinite reading",
+            spell::tape(&[2], 1, vec![spell::point(1), infinite()]),
+        ),
+        case(
+            "far-reading",
+            "refused 15: the first number of kilometres past the range",
+            spell::tape(&[2], 1, vec![spell::point(1), far()]),
+        ),
+        case(
+            "infinite-before-far",
+            "refused 14: an infinite reading, and one past the range after it",
+            spell::tape(&[2], 1, vec![infinite(), far()]),
+        ),
+        case(
+            "far-before-infinite",
+            "refused 15: a reading past the range, and an infinite one after it",
+            spell::tape(&[2], 1, vec![far(), infinite()]),
+        ),
+        case(
+            "form-before-reading",
+            "refused 2: an infinite reading, and a 52 with count 0 after it",
+            spell::tape(&[2], 1, vec![infinite(), repeated(0, 1)]),
+        ),
+        case(
+            "reading-before-length",
+            "refused 14: an infinite reading, and a length of 0",
+            spell::tape(&[0], 1, vec![infinite()]),
+        ),
     ]
 }

@@ -66,17 +66,27 @@ fn table_says_what_its_comments_say() {
         }
         assert!(output.len() <= 200, "{name}");
     }
-    assert!(cases.len() >= 16);
+    assert!(cases.len() >= 23);
     let limits = declared(&module, "Limit");
     for (name, refusal, line) in &limits {
         let number = refusal.unwrap_or("0");
         assert!(line.ends_with(&format!("; refusal = {number} }}")), "{name}");
     }
-    assert!(limits.len() >= 8);
+    assert!(limits.len() >= 14);
     for (list, of) in [("cases", cases), ("limits", limits)] {
         let names: String = of.iter().map(|(name, ..)| format!("{name} ∷ ")).collect();
         assert!(module.contains(&format!("\n{list} = {names}[]\n")));
     }
+}
+
+/// 38 -7 -7 and -1562 -100 5, added up by hand.
+#[test]
+fn table_has_readings_of_all_kinds() {
+    let due = r#"; output = text "plan 2 1 2 14 4\ndim 1 3 1\ndim 0 2 0\ngroup 2 -1524 -107 -2\ngroup 0 -1633\ngroup 1 24 -1657\nend 3\n" }"#;
+    let module = table::module();
+    let cases = declared(&module, "Case");
+    let case = cases.iter().find(|case| case.0 == "readings-of-all-kinds").unwrap();
+    assert!(case.2.ends_with(due), "{}", case.2);
 }
 
 /// The cases of a kind: the name, the refusal that the comment says, and what is declared.
