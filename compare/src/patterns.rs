@@ -71,7 +71,7 @@ fn at_borders() -> Vec<Group> {
         ),
         group(
             "ties",
-            "halves above an even and above an odd number, the first and the last ones, and the patterns next to them",
+            "halves over even and odd numbers, the first and the last, with the patterns beside them",
             UNITS.into_iter().flat_map(ties).collect(),
         ),
         group(

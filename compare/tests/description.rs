@@ -142,6 +142,14 @@ fn units_in_csv() {
     assert_eq!(told(text), worked());
 }
 
+/// By hand: 12.5, -37.5, 58, 62, just less than 100.5, and -41.
+#[test]
+fn the_example_of_older_sets() {
+    let points = vec![12, -38, 58, 62, 100, -41];
+    let text = include_bytes!("../../examples/older-sets.txt");
+    assert_eq!(told(text), (vec![2, 3], 1, points));
+}
+
 #[test]
 fn faults_of_units() {
     no_point("1.25", "\"1.25\" has no unit");
