@@ -9,7 +9,7 @@ use crate::spell;
 pub const KINDS: &[Kind] = &[
     ("an infinite reading", Refused(14, |random| with_one(random, infinite))),
     ("a reading that is no number", Refused(14, |random| with_one(random, no_number))),
-    ("a reading that is not finite", Refused(14, |random| with_one(random, not_finite))),
+    ("a reading that is no number", Refused(14, |random| with_one(random, no_number))),
     ("a reading just past the range", Refused(15, |random| with_one(random, just_past))),
     ("a reading past the range", Refused(15, |random| with_one(random, past))),
     ("the largest reading", Refused(15, |random| with_one(random, largest))),
@@ -18,6 +18,9 @@ pub const KINDS: &[Kind] = &[
 const SIGN: u32 = 1 << 31;
 const FIRST_NORMAL: u32 = 1 << 23;
 const INFINITE: u32 = 0x7f80_0000;
+
+/// How the pattern of a reading without its sign is drawn.
+type Size = fn(&mut Random, Unit) -> u32;
 
 /// The last that is taken; the next is past the range. Floats are 2 m apart there, or 512ths of a
 /// kilometre.
@@ -29,8 +32,8 @@ fn last(unit: Unit) -> u32 {
     value.to_bits()
 }
 
-/// Readings that are taken. Of those without a sign a larger one has the larger number.
-const TAKEN: [fn(&mut Random, Unit) -> u32; 7] = [
+/// A larger reading has the larger pattern.
+const TAKEN: [Size; 7] = [
     logged,
     near_half,
     tie,
@@ -45,17 +48,14 @@ pub fn taken(random: &mut Random) -> Reading {
     signed(random, size)
 }
 
-fn signed(random: &mut Random, size: fn(&mut Random, Unit) -> u32) -> Reading {
+fn signed(random: &mut Random, size: Size) -> Reading {
     let unit = random.pick(&UNITS);
     let bits = size(random, unit) | random.pick(&[0, SIGN]);
     Reading { unit, bits }
 }
 
 fn of_centimetres(unit: Unit, centimetres: f64) -> u32 {
-    let value = match unit {
-        Unit::Metres => centimetres / 100.0,
-        Unit::Kilometres => centimetres / 100_000.0,
-    };
+    let value = centimetres / f64::from(unit.in_centimetres());
     (value as f32).to_bits()
 }
 
@@ -84,10 +84,11 @@ fn tie(random: &mut Random, unit: Unit) -> u32 {
 
 /// Of the refusal that is asked for.
 pub fn offending(random: &mut Random, number: u8) -> Reading {
-    let size = match number {
-        14 => not_finite,
-        _ => random.pick(&[just_past, past, largest]),
+    let sizes: &[Size] = match number {
+        14 => &[infinite, no_number],
+        _ => &[just_past, past, largest],
     };
+    let size = random.pick(sizes);
     signed(random, size)
 }
 
@@ -99,10 +100,6 @@ fn infinite(_: &mut Random, _: Unit) -> u32 {
 fn no_number(random: &mut Random, _: Unit) -> u32 {
     let any = random.between(1, 0x7f_ffff) as u32;
     INFINITE + random.pick(&[1, 0x3f_ffff, 0x40_0000, 0x7f_ffff, any])
-}
-
-fn not_finite(random: &mut Random, unit: Unit) -> u32 {
-    random.pick(&[infinite, no_number])(random, unit)
 }
 
 fn just_past(random: &mut Random, unit: Unit) -> u32 {
@@ -118,7 +115,7 @@ fn largest(_: &mut Random, _: Unit) -> u32 {
 }
 
 /// A campaign in which one of the points is such a reading.
-fn with_one(random: &mut Random, size: fn(&mut Random, Unit) -> u32) -> Tape {
+fn with_one(random: &mut Random, size: Size) -> Tape {
     let shape = shapes::any(random);
     let mut commands = campaign::commands(random, &shape, shape.points() - 1);
     let reading = signed(random, size);
