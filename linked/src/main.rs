@@ -6,6 +6,7 @@ mod lawful;
 mod library;
 mod memory;
 mod plans;
+mod readings;
 mod runs;
 mod selftest;
 mod slots;
@@ -14,6 +15,7 @@ mod tapes;
 mod watched;
 
 use compare::random::Random;
+use faults::Entry;
 use std::env;
 use std::process::ExitCode;
 use std::time::Instant;
@@ -21,6 +23,8 @@ use std::time::Instant;
 const USAGE: &str = "\
 usage: linked plans SEED N      compare planning on every small shape, N random requests and every refusal
        linked tapes SEED N      compare reading on N made tapes, and on tapes damaged at every byte
+       linked readings          compare readings in metres and kilometres: 4,096 mantissas of every sign and exponent, borders, ties
+       linked readings all      the same for all 2^32 patterns, on two threads, for some minutes
        linked steps SEED N      compare prices, T, every step and held on every small plan, N random plans and every refusal
        linked memory SEED N     compare step, view and gather on lent memory: every small plan, N random plans, large ones and every refusal
        linked selftest          plant faults between the library and each comparison, which must see them
@@ -43,6 +47,8 @@ fn main() -> ExitCode {
         ["memory", seed, n] => {
             seed.parse().ok().zip(n.parse().ok()).map(|(s, n)| memory::check(s, n))
         }
+        ["readings"] => Some(readings::check()),
+        ["readings", "all"] => return ExitCode::from(u8::from(readings::all() > 0)),
         ["selftest"] => Some(selftest::check()),
         ["bench"] => {
             plans::bench();
@@ -66,6 +72,8 @@ fn main() -> ExitCode {
 pub struct Count {
     pub passed: u64,
     pub failed: u64,
+    /// What entries answered, where that is told.
+    pub answers: Vec<(Entry, u8)>,
     /// Under a planted fault nothing is shown.
     pub quiet: bool,
 }
@@ -76,6 +84,12 @@ impl Count {
         let mut count = Count { quiet: true, ..Count::default() };
         part(&mut count, &mut Random::new(seed));
         count
+    }
+
+    pub fn answered(&mut self, entry: Entry, answer: u8) {
+        if !self.answers.contains(&(entry, answer)) {
+            self.answers.push((entry, answer));
+        }
     }
 
     pub fn note(&mut self, same: bool, what: impl FnOnce() -> String) {

@@ -5,18 +5,19 @@ use std::hint::black_box;
 use compare::judge::Refusal;
 use compare::make;
 use compare::random::Random;
-use compare::spell;
+use compare::reading::{Reading, Unit};
+use compare::spell::{self, Command};
 use compare::tape::{self, Run, Tape};
 
-use crate::library;
+use crate::faults::Entry;
 use crate::watched::{fill, scan};
-use crate::{nanoseconds, Count};
+use crate::{library, nanoseconds, readings, Count};
 
 /// Cells of a scan.
-const SCANNED: usize = 11;
+pub const SCANNED: usize = 11;
 
 /// `n` made tapes; then small lawful tapes cut at every byte, with every byte changed,
-/// and with every two commands swapped.
+/// and with every two commands swapped. Every answer must come up.
 pub fn check(seed: u64, n: u64) -> Count {
     let mut count = Count::default();
     for index in 0..n {
@@ -24,7 +25,17 @@ pub fn check(seed: u64, n: u64) -> Count {
     }
     each_damage(&mut count, &mut Random::new(seed), 40);
     longest(&mut count);
+    every_answer(&mut count);
     count
+}
+
+fn every_answer(count: &mut Count) {
+    for (entry, last) in [(Entry::Scan, 13), (Entry::Fill, 11)] {
+        for answer in [0, 1, 2, 14, 15, last] {
+            let came_up = count.answers.contains(&(entry, answer));
+            count.note(came_up, || format!("{entry:?} never answers {answer}"));
+        }
+    }
 }
 
 /// Made tapes alone.
@@ -67,6 +78,7 @@ fn scanned(count: &mut Count, bytes: &[u8], due: &Result<Tape, Refusal>) {
         let before: Vec<u64> = (0..len as u64).map(|i| 0xa5a5_0000 ^ i).collect();
         let mut out = before.clone();
         let answer = scan(bytes, &mut out);
+        count.answered(Entry::Scan, answer);
         let (refusal, written) = match due {
             Err(Refusal(number)) => (*number, before),
             Ok(_) if len != SCANNED => (13, before),
@@ -89,6 +101,7 @@ fn filled(count: &mut Count, bytes: &[u8], due: &Result<Tape, Refusal>, len: usi
     let before: Vec<i32> = (0..len as i32).map(|i| i ^ 0x5a5a_5a5a).collect();
     let mut slice = before.clone();
     let answer = fill(bytes, &mut slice);
+    count.answered(Entry::Fill, answer);
     let (refusal, written) = match due {
         Err(Refusal(number)) => (*number, before),
         Ok(tape) if tape.point_count() > len as u64 => (11, before),
@@ -112,12 +125,20 @@ fn shown(bytes: &[u8]) -> String {
     format!("{} bytes {:02x?}", bytes.len(), &bytes[..bytes.len().min(40)])
 }
 
-fn repeat(count: u16, point: i32) -> Vec<u8> {
+fn repeat(count: u16, point: i32) -> Command {
     spell::repeat(Run { count, point })
 }
 
-/// A lawful tape of all commands, the points few.
-fn small(random: &mut Random) -> Vec<Vec<u8>> {
+fn metres(value: f32) -> Command {
+    spell::reading(Reading::new(Unit::Metres, value))
+}
+
+fn kilometres(value: f32) -> Command {
+    spell::reading(Reading::new(Unit::Kilometres, value))
+}
+
+/// A tape of all commands, the points few; lawful but for readings that may be refused.
+fn small(random: &mut Random) -> Vec<Command> {
     let mut commands = Vec::new();
     for _ in 0..random.below(11) {
         commands.push(spell::axis(random.next() as u16));
@@ -125,23 +146,23 @@ fn small(random: &mut Random) -> Vec<Vec<u8>> {
     commands.push(spell::boards(random.next() as u8));
     for _ in 0..random.below(9) {
         let point = random.next() as i32;
-        commands.push(match random.one_in(2) {
-            true => spell::point(point),
-            false => repeat(random.between(1, 300) as u16, point),
+        commands.push(match random.below(4) {
+            0 => spell::point(point),
+            1 => repeat(random.between(1, 300) as u16, point),
+            _ => spell::reading(readings::any(random)),
         });
     }
     commands.push(spell::end());
     commands
 }
 
-fn damaged(count: &mut Count, random: &mut Random, commands: &[Vec<u8>]) {
+fn damaged(count: &mut Count, random: &mut Random, commands: &[Command]) {
     let whole = commands.concat();
     for at in 0..=whole.len() {
         expect(count, &whole[..at]);
     }
     for at in 0..whole.len() {
-        let letters = [tape::AXIS, tape::BOARDS, tape::END, tape::REPEAT, tape::POINT, 0, 0xff];
-        for byte in letters.into_iter().chain([random.next() as u8]) {
+        for byte in tape::COMMANDS.into_iter().chain([0, 0xff, random.next() as u8]) {
             let mut changed = whole.clone();
             changed[at] = byte;
             expect(count, &changed);
@@ -156,12 +177,25 @@ fn damaged(count: &mut Count, random: &mut Random, commands: &[Vec<u8>]) {
     }
 }
 
-/// Tapes of 65,535 to 65,537 bytes, of each kind of command.
+/// Tapes of 65,535 to 65,537 bytes, of each kind of command, and with another for the last point.
 fn longest(count: &mut Count) {
+    let runs = [repeat(65_535, 7), repeat(3, i32::MIN)];
+    let singles = [
+        spell::point(-5),
+        metres(0.125),
+        kilometres(-0.625),
+        metres(f32::NAN),
+        kilometres(f32::MAX),
+    ];
     for len in tape::LONGEST_TAPE - 1..=tape::LONGEST_TAPE + 1 {
-        expect(count, &long(len, &spell::point(-5)));
-        expect(count, &long(len, &repeat(65_535, 7)));
-        expect(count, &long(len, &repeat(3, i32::MIN)));
+        for command in runs.iter().chain(&singles) {
+            expect(count, &long(len, command));
+        }
+        for (command, last) in singles.iter().flat_map(|a| singles.iter().map(move |b| (a, b))) {
+            let mut bytes = long(len, command);
+            bytes[len - 1 - last.len()..len - 1].copy_from_slice(last);
+            expect(count, &bytes);
+        }
         expect(count, &vec![tape::AXIS; len]);
     }
 }
