@@ -31,16 +31,28 @@ pub enum Part {
     Result,
 }
 
-/// The calls that have the fault: those that the library takes, or those that it refuses.
+/// The calls that have the fault: those that the library takes, those that it refuses, or those
+/// that it refuses by one number.
 #[derive(Clone, Copy, Debug, PartialEq)]
 pub enum When {
     Taken,
     Refused,
+    By(u8),
+}
+
+impl When {
+    fn is(self, answer: u8) -> bool {
+        match self {
+            When::Taken => answer == 0,
+            When::Refused => answer != 0,
+            When::By(number) => answer == number,
+        }
+    }
 }
 
 #[derive(Clone, Copy, Debug, PartialEq)]
 pub enum Change {
-    /// Another number is answered: so many lines further, with 0 after 13.
+    /// Another number is answered: so much larger, with 0 after 15.
     Answer(u8),
     /// The cell of that number, or the last, is another.
     Cell(Part, usize),
@@ -68,14 +80,13 @@ pub fn plant(fault: Option<Fault>) {
 /// What a call that answers so has planted.
 pub fn planted(entry: Entry, answer: u8) -> Option<Change> {
     let fault = PLANTED.get()?;
-    let when = if answer == 0 { When::Taken } else { When::Refused };
-    (fault.entry == entry && fault.when == when).then_some(fault.change)
+    (fault.entry == entry && fault.when.is(answer)).then_some(fault.change)
 }
 
 /// The answer, or another.
 pub fn told(entry: Entry, answer: u8) -> u8 {
     match planted(entry, answer) {
-        Some(Change::Answer(further)) => (answer + further) % 14,
+        Some(Change::Answer(further)) => (answer + further) % 16,
         _ => answer,
     }
 }

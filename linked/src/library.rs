@@ -1,9 +1,10 @@
 //! libcampaign.a, as include/campaign.h declares it, over slices. Faults can be planted in what a
-//! call answers and writes.
+//! call answers and writes, and in the tape that it hears.
 
 use std::slice;
 
 use crate::faults::{spoil, told, Entry, Part};
+use crate::misread::heard;
 
 extern "C" {
     fn campaign_plan(
@@ -228,12 +229,14 @@ pub fn gather(plan: Slices, work: &[i64], position: u64, result: &mut [i64]) -> 
 }
 
 pub fn scan(tape: &[u8], scan: &mut [u64]) -> u8 {
+    let tape = heard(tape);
     let answer = unsafe { campaign_scan(tape.as_ptr(), tape.len(), scan.as_mut_ptr(), scan.len()) };
     spoil(Entry::Scan, answer, Part::Result, scan);
     told(Entry::Scan, answer)
 }
 
 pub fn fill(tape: &[u8], array: &mut [i32]) -> u8 {
+    let tape = heard(tape);
     let answer =
         unsafe { campaign_fill(tape.as_ptr(), tape.len(), array.as_mut_ptr(), array.len()) };
     spoil(Entry::Fill, answer, Part::Result, array);

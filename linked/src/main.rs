@@ -5,6 +5,7 @@ mod faults;
 mod lawful;
 mod library;
 mod memory;
+mod misread;
 mod plans;
 mod readings;
 mod runs;

@@ -150,6 +150,28 @@ pub fn check() -> Count {
     count
 }
 
+/// Single readings alone: around borders and ties, `n` ties of each size.
+pub fn singles(seed: u64, n: u64) -> Count {
+    few(seed, n, each_alone)
+}
+
+/// The same, many to a tape.
+pub fn many(seed: u64, n: u64) -> Count {
+    few(seed, n, each_among)
+}
+
+type Part = fn(&mut Count, Unit, std::vec::IntoIter<u32>);
+
+fn few(seed: u64, n: u64, part: Part) -> Count {
+    Count::of(seed, |count, random| {
+        for unit in UNITS {
+            let centres = [borders(unit), ties(random, unit, n)].concat();
+            let patterns: Vec<u32> = centres.iter().flat_map(|&bits| around(bits, 1)).collect();
+            part(count, unit, patterns.into_iter());
+        }
+    })
+}
+
 fn each_alone(count: &mut Count, unit: Unit, patterns: impl Iterator<Item = u32>) {
     let mut trial = Trial::new(unit, WATCHED);
     for bits in patterns {

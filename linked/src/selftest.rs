@@ -1,7 +1,8 @@
 //! Faults planted between the library and each comparison: every one must be seen.
 
 use crate::faults::{plant, Change, Entry, Fault, Part, When};
-use crate::{memory, plans, steps, tapes, Count};
+use crate::misread::{self, Misreading};
+use crate::{memory, plans, readings, steps, tapes, Count};
 
 /// A comparison with its seed, and how much of it is run.
 type Loop = (fn(u64, u64) -> Count, u64, u64);
@@ -67,7 +68,7 @@ const TRIALS: [Trial; 11] = [
 /// What can be wrong with a call: its answer, each cell that it writes, the ends of a slice that
 /// has any length or is only read, and the cells around each slice.
 fn changes(trial: &Trial) -> Vec<Change> {
-    let mut changes = vec![Change::Answer(1), Change::Answer(13)];
+    let mut changes = vec![Change::Answer(1), Change::Answer(15)];
     let any_length = trial.read.iter().map(|&part| (part, None));
     for (part, cells) in trial.written.iter().copied().chain(any_length) {
         match cells {
@@ -82,7 +83,7 @@ fn changes(trial: &Trial) -> Vec<Change> {
 /// What whole runs compare themselves: the steps' answers, positions and what they tell, and the
 /// array in the end.
 fn changes_in_runs() -> Vec<Change> {
-    let mut changes = vec![Change::Answer(1), Change::Answer(13), Change::Cell(Part::Position, 0)];
+    let mut changes = vec![Change::Answer(1), Change::Answer(15), Change::Cell(Part::Position, 0)];
     changes.extend((0..5).map(|at| Change::Cell(Part::Result, at)));
     changes.extend([Change::Cell(Part::Array, 0), Change::Last(Part::Array)]);
     changes
@@ -97,14 +98,61 @@ pub fn check() -> Count {
         }
     }
     try_all(&mut count, Entry::Step, When::Taken, (memory::runs, 7, 4), changes_in_runs());
+    offences(&mut count);
+    misreadings(&mut count);
     count
 }
 
-fn try_all(count: &mut Count, entry: Entry, when: When, compare: Loop, changes: Vec<Change>) {
-    let (compare, seed, n) = compare;
+/// What compares readings: made tapes of every kind, damaged ones, single readings and many.
+const MADE: Loop = (tapes::made, 7, 300);
+const DAMAGED: Loop = (tapes::refusals, 7, 12);
+const SINGLES: Loop = (readings::singles, 7, 2);
+const MANY: Loop = (readings::many, 7, 2);
+
+/// Faults in calls that are refused for a reading alone.
+fn offences(count: &mut Count) {
+    for trial in TRIALS.iter().filter(|trial| trial.read == [Part::Tape]) {
+        for number in [14, 15] {
+            for compare in [DAMAGED, SINGLES] {
+                try_all(count, trial.entry, When::By(number), compare, changes(trial));
+            }
+        }
+    }
+}
+
+/// Each with the comparisons that can see it: single readings hold no two that offend.
+const MISREADINGS: [(Misreading, &[Loop]); 8] = [
+    (Misreading::HalfAwayFromZero, &[MADE, SINGLES, MANY]),
+    (Misreading::HalfToOdd, &[MADE, SINGLES, MANY]),
+    (Misreading::Truncated, &[MADE, SINGLES, MANY]),
+    (Misreading::KilometresAsMetres, &[MADE, SINGLES, MANY]),
+    (Misreading::InfiniteAsPastTheRange, &[MADE, DAMAGED, SINGLES]),
+    (Misreading::LastOffence, &[MADE, DAMAGED]),
+    (Misreading::PastTheRangeFirst, &[MADE, DAMAGED]),
+    (Misreading::InfiniteAheadOfForm, &[MADE, DAMAGED]),
+];
+
+fn misreadings(count: &mut Count) {
+    clean(count, "many readings", MANY);
+    for (misreading, loops) in MISREADINGS {
+        for (i, &(compare, seed, n)) in loops.iter().enumerate() {
+            misread::plant(Some(misreading));
+            let seen = compare(seed, n).failed > 0;
+            misread::plant(None);
+            count.note(seen, || format!("{misreading:?} is not seen by comparison {i}"));
+        }
+    }
+}
+
+fn clean(count: &mut Count, name: &str, (compare, seed, n): Loop) {
     let clean = compare(seed, n);
-    let what = || format!("{entry:?}, {when:?}: without a fault {} fail", clean.failed);
+    let what = || format!("{name}: without a fault {} fail", clean.failed);
     count.note(clean.passed > 0 && clean.failed == 0, what);
+}
+
+fn try_all(count: &mut Count, entry: Entry, when: When, compare: Loop, changes: Vec<Change>) {
+    clean(count, &format!("{entry:?}, {when:?}"), compare);
+    let (compare, seed, n) = compare;
     for change in changes {
         plant(Some(Fault { entry, when, change }));
         let seen = compare(seed, n).failed > 0;
