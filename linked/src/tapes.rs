@@ -218,37 +218,56 @@ fn long(len: usize, command: &[u8]) -> Vec<u8> {
 /// Nanoseconds to scan and fill, beside the independent reader with its points.
 pub fn bench() {
     println!("{:<40}{:>12}{:>12}{:>8}", "scan and fill", "proved", "compare", "ratio");
-    let repeats: Vec<u8> =
-        [spell::axis(8_192), spell::boards(0), repeat(1_024, -77).repeat(8), spell::end()].concat();
-    let tapes = [
-        ("65,536 bytes of 56s", long(tape::LONGEST_TAPE, &spell::point(-123_456))),
-        ("52s that fill 8,192 cells", repeats),
-        ("a 52 for each of 8,192 cells", each()),
-    ];
-    for (name, bytes) in tapes {
-        let points = tape::read(&bytes).expect("a lawful tape").point_count();
-        let mut slice = vec![0; points as usize];
-        let mut out = [0; SCANNED];
-        let proved = nanoseconds(200, || {
-            black_box(library::scan(black_box(&bytes), &mut out));
-            black_box(library::fill(black_box(&bytes), &mut slice));
-        });
-        let independent = nanoseconds(200, || {
-            let read = tape::read(black_box(&bytes)).expect("a lawful tape");
-            black_box(read.point_count());
-            black_box(read.points());
-        });
-        let ratio = proved / independent;
-        println!("{name:<40}{proved:>9.0} ns{independent:>9.0} ns{ratio:>8.2}");
+    let random = &mut Random::new(1);
+    let repeats = spell::tape(&[8_192], 0, vec![repeat(1_024, -77); 8]);
+    let each = (0..8_192).map(|point| repeat(1, point)).collect();
+    let reading = |unit| move |random: &mut Random| spell::reading(readings::usual(random, unit));
+    row("65,536 bytes of 56s", &long(tape::LONGEST_TAPE, &spell::point(-123_456)));
+    row("65,536 bytes of 4Ds", &drawn(random, reading(Unit::Metres)));
+    row("65,536 bytes of 4Bs", &drawn(random, reading(Unit::Kilometres)));
+    row("a mix of 56s, 4Ds, 4Bs and 52s", &drawn(random, mixed));
+    row("52s that fill 8,192 cells", &repeats);
+    row("a 52 for each of 8,192 cells", &spell::tape(&[8_192], 0, each));
+}
+
+fn row(name: &str, bytes: &[u8]) {
+    let due = tape::read(bytes).expect("a lawful tape");
+    let mut slice = vec![0; due.point_count() as usize];
+    let mut out = [0; SCANNED];
+    let proved = nanoseconds(200, || {
+        black_box(library::scan(black_box(bytes), &mut out));
+        black_box(library::fill(black_box(bytes), &mut slice));
+    });
+    assert!(out[..] == spelled(&due) && slice == due.points(), "{name}: the points differ");
+    let independent = nanoseconds(200, || {
+        let read = tape::read(black_box(bytes)).expect("a lawful tape");
+        black_box(read.point_count());
+        black_box(read.points());
+    });
+    let ratio = proved / independent;
+    println!("{name:<40}{proved:>9.0} ns{independent:>9.0} ns{ratio:>8.2}");
+}
+
+/// As many commands as the longest tape has room for.
+fn drawn(random: &mut Random, draw: impl Fn(&mut Random) -> Command) -> Vec<u8> {
+    let mut bytes = [spell::axis(13_106), spell::boards(0)].concat();
+    loop {
+        let command = draw(random);
+        if bytes.len() + command.len() + spell::end().len() > tape::LONGEST_TAPE {
+            bytes.extend(spell::end());
+            return bytes;
+        }
+        bytes.extend(command);
     }
 }
 
-/// A 52 for each of 8,192 cells.
-fn each() -> Vec<u8> {
-    let mut bytes = [spell::axis(8_192), spell::boards(0)].concat();
-    for i in 0..8_192 {
-        bytes.extend(repeat(1, i));
+/// Any command of a point, its number within 50 metres.
+fn mixed(random: &mut Random) -> Command {
+    let point = random.below(10_001) as i32 - 5_000;
+    match random.below(4) {
+        0 => spell::point(point),
+        1 => repeat(random.between(1, 4) as u16, point),
+        2 => spell::reading(readings::usual(random, Unit::Metres)),
+        _ => spell::reading(readings::usual(random, Unit::Kilometres)),
     }
-    bytes.extend(spell::end());
-    bytes
 }
