@@ -52,6 +52,9 @@ extern "C" {
 #define CAMPAIGN_PLANNED 0          /* the same, as campaign_plan returns it */
 #define CAMPAIGN_LONG_TAPE 1        /* the tape is over 65,536 bytes */
 #define CAMPAIGN_BAD_TAPE 2         /* the tape departs from its form */
+#define CAMPAIGN_NOT_FINITE 14      /* a reading on the tape is infinite or not a number; */
+#define CAMPAIGN_OUT_OF_RANGE 15    /* or it gives a number outside -2,147,483,647 to 2,147,483,647:
+                                       of 14 and 15 the one that comes first on the tape is due */
 #define CAMPAIGN_BAD_AXES 3         /* no axes or more than 8; an odd number of length bytes */
 #define CAMPAIGN_BAD_LENGTH 4       /* an axis length is 0 or over 65,535 */
 #define CAMPAIGN_TOO_MANY_POINTS 5  /* the product of the lengths is over 16,777,216 */
@@ -207,12 +210,28 @@ uint8_t campaign_gather(const uint8_t *plan, size_t plan_len,
                         const int64_t *work, size_t work_len, uint64_t position,
                         int64_t *result, size_t result_len);
 
+/*
+ * Tapes. A row of commands of one byte each (hex), with operands, the lowest byte first: 41 and an
+ * axis length (2 bytes) for each axis, then 42 and p (1 byte), then the points, then 45 and no byte
+ * after it. A point is one of
+ *
+ *     56  a whole number of centimetres, signed (4 bytes)
+ *     52  a count of at least 1 (2 bytes), and such a number (4 bytes) that stands so often
+ *     4D  a reading in metres: the 4 bytes of a float in single precision (IEEE 754)
+ *     4B  a reading in kilometres: the same
+ *
+ * A reading gives the whole centimetre nearest to the float's exact value, and of two that are
+ * equally near the even one: 0.125 m gives 12, 0.375 m gives 38, -0.125 m gives -12, and both zeros
+ * give 0. No reading gives -2,147,483,648; a 56 or a 52 may. campaign(3) shows how the log of an
+ * older set is loaded.
+ */
+
 /* Scanning a tape: see campaign_tape_scan. */
 uint8_t campaign_scan(const uint8_t *tape, size_t tape_len, uint64_t *scan, size_t scan_len);
 
 /*
  * Reads a tape's points into `array`, which has room for them or for more; cells after the points
- * are not touched. Refusals 1, 2, 11.
+ * are not touched. The tape's lengths and p play no part here. Refusals 1, 2, 14, 15, 11.
  */
 uint8_t campaign_fill(const uint8_t *tape, size_t tape_len, int32_t *array, size_t array_len);
 
@@ -400,8 +419,9 @@ static inline uint8_t campaign_plan_gather(const struct campaign_rack_plan *plan
 }
 
 /*
- * Judges a tape's form and tells what it holds. Whether such a campaign can be planned is for
- * campaign_plan_make to say, where it has no more than CAMPAIGN_AXES axes. Refusals 1, 2.
+ * Judges a tape's form and its readings, and tells what it holds. Whether such a campaign can be
+ * planned is for campaign_plan_make to say, where it has no more than CAMPAIGN_AXES axes. Refusals
+ * 1, 2, 14, 15.
  */
 static inline uint8_t campaign_tape_scan(const uint8_t *tape, size_t tape_len,
                                          struct campaign_tape *scan)
