@@ -133,6 +133,7 @@ const MISREADINGS: [(Misreading, &[Loop]); 8] = [
 ];
 
 fn misreadings(count: &mut Count) {
+    clean(count, "made tapes", MADE);
     clean(count, "many readings", MANY);
     for (misreading, loops) in MISREADINGS {
         for (i, &(compare, seed, n)) in loops.iter().enumerate() {
