@@ -222,25 +222,35 @@ pub fn bench() {
     let repeats = spell::tape(&[8_192], 0, vec![repeat(1_024, -77); 8]);
     let each = (0..8_192).map(|point| repeat(1, point)).collect();
     let reading = |unit| move |random: &mut Random| spell::reading(readings::usual(random, unit));
-    row("65,536 bytes of 56s", &long(tape::LONGEST_TAPE, &spell::point(-123_456)));
-    row("65,536 bytes of 4Ds", &drawn(random, reading(Unit::Metres)));
-    row("65,536 bytes of 4Bs", &drawn(random, reading(Unit::Kilometres)));
-    row("a mix of 56s, 4Ds, 4Bs and 52s", &drawn(random, mixed));
-    row("52s that fill 8,192 cells", &repeats);
-    row("a 52 for each of 8,192 cells", &spell::tape(&[8_192], 0, each));
+    row("65,536 bytes of 56s", &[long(tape::LONGEST_TAPE, &spell::point(-123_456))]);
+    rows("65,536 bytes of 4Ds", &drawn(random, reading(Unit::Metres)));
+    rows("65,536 bytes of 4Bs", &drawn(random, reading(Unit::Kilometres)));
+    rows("a mix of 56s, 4Ds, 4Bs and 52s", &drawn(random, mixed));
+    row("52s that fill 8,192 cells", &[repeats]);
+    row("a 52 for each of 8,192 cells", &[spell::tape(&[8_192], 0, each)]);
 }
 
-fn row(name: &str, bytes: &[u8]) {
-    let due = tape::read(bytes).expect("a lawful tape");
-    let mut slice = vec![0; due.point_count() as usize];
-    let mut out = [0; SCANNED];
-    let proved = nanoseconds(200, || {
-        black_box(library::scan(black_box(bytes), &mut out));
-        black_box(library::fill(black_box(bytes), &mut slice));
-    });
-    assert!(out[..] == spelled(&due) && slice == due.points(), "{name}: the points differ");
+/// One of the tapes again and again, then all of them in turn: a processor may come to foresee the
+/// numbers of the one, which it cannot with a log that is read once.
+fn rows(name: &str, tapes: &[Vec<u8>]) {
+    row(name, &tapes[..1]);
+    row(&format!("  {} such tapes in turn", tapes.len()), tapes);
+}
+
+/// Tapes that are read in turn, after their points are compared.
+fn row(name: &str, tapes: &[Vec<u8>]) {
+    let (mut out, mut slice) = ([0; SCANNED], vec![0; 1 << 15]);
+    for bytes in tapes {
+        let due = tape::read(bytes).expect("a lawful tape");
+        scan_and_fill(bytes, &mut out, &mut slice);
+        let same = out[..] == spelled(&due) && slice.starts_with(&due.points());
+        assert!(same, "{name}: the points differ");
+    }
+    let mut turn = tapes.iter().cycle();
+    let mut next = || black_box(turn.next().expect("there are tapes"));
+    let proved = nanoseconds(200, || scan_and_fill(next(), &mut out, &mut slice));
     let independent = nanoseconds(200, || {
-        let read = tape::read(black_box(bytes)).expect("a lawful tape");
+        let read = tape::read(next()).expect("a lawful tape");
         black_box(read.point_count());
         black_box(read.points());
     });
@@ -248,8 +258,17 @@ fn row(name: &str, bytes: &[u8]) {
     println!("{name:<40}{proved:>9.0} ns{independent:>9.0} ns{ratio:>8.2}");
 }
 
-/// As many commands as the longest tape has room for.
-fn drawn(random: &mut Random, draw: impl Fn(&mut Random) -> Command) -> Vec<u8> {
+fn scan_and_fill(bytes: &[u8], out: &mut [u64], slice: &mut [i32]) {
+    black_box(library::scan(bytes, out));
+    black_box(library::fill(bytes, slice));
+}
+
+/// Tapes of as many commands as there is room for.
+fn drawn(random: &mut Random, draw: impl Fn(&mut Random) -> Command) -> Vec<Vec<u8>> {
+    (0..16).map(|_| drawn_one(random, &draw)).collect()
+}
+
+fn drawn_one(random: &mut Random, draw: impl Fn(&mut Random) -> Command) -> Vec<u8> {
     let mut bytes = [spell::axis(13_106), spell::boards(0)].concat();
     loop {
         let command = draw(random);
