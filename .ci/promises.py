@@ -5,7 +5,8 @@ Each `crate/File.name` must be a name that specs/ or proofs/ of that crate decla
 file, and the names in brackets after it, up to a colon, names of that file. Each `crate/file` must be a file of code of
 that crate, and the names in backquotes that follow it, up to the next place or other text, functions, types or constants
 of it. Each other name in backquotes must be one that some file of the crates declares, and each crate/edit_name a
-must-fail edit; each edit must be named. Prints what is not so; exit status 1 if there is any.
+must-fail edit; each edit must be named. The functions of the first table, the public entries, must have no `requires`.
+Prints what is not so; exit status 1 if there is any.
 """
 import pathlib
 import re
@@ -22,20 +23,33 @@ for file in root.glob('crates/*/*/**/*.antt'):
     declared.setdefault((crate, file.stem), set()).update(names)
 every = set().union(*declared.values())
 code = {}
+bodies = {}
 for file in root.glob('crates/*/src/*.rt'):
     body = file.read_text(encoding='utf-8')
+    bodies[file.parts[-3], file.stem] = body
     every |= set(re.findall(r'\b(\w+)\b', body))
     code[file.parts[-3], file.stem] = set(re.findall(r'\b(?:fn|struct|enum|const|impl) (\w+)', body))
     code[file.parts[-3], file.stem] |= set(re.findall(r'^    (\w+)(?:\(.*\))?,$', body, re.M))  # the cases of an enum
 bad = []
 # a place in the code, and the names that follow it: `crate/file` `name`, `name` and `name`
-for crate, stem, names in re.findall(r'`([a-z_]+)/([a-z_]+)`((?:(?:,| and|, and)? `[A-Za-z]\w*(?:::\w+)?`(?!/))*)', text):
+places = r'`([a-z_]+)/([a-z_]+)`((?:(?:,| and|, and)? `[A-Za-z]\w*(?:::\w+)?`(?!/))*)'
+for crate, stem, names in re.findall(places, text):
     if (crate, stem) not in code:
         bad.append(f'no code {crate}/{stem}')
         continue
     for name in re.findall(r'`([^`]+)`', names):
         if not set(name.split('::')) <= code[crate, stem]:
             bad.append(f'{stem}.rt of {crate} declares no {name}')
+# the entries of the first table: what stands between a function's name and its body
+entries = re.search(r'^Public entries.*?\n\n(.*?)\n\n', text, re.M | re.S)
+rows = [row.split('|')[2] for row in entries[1].split('\n')[2:]] if entries else []
+listed = [(crate, stem, name) for row in rows for crate, stem, names in re.findall(places, row) for name in re.findall(r'`(\w+)`', names)]
+if len(listed) < len(rows) or not rows:
+    bad.append('a row of the first table names no function')
+for crate, stem, name in listed:
+    head = re.search(rf'\bfn {name}\b(.*?)(?:^\{{$|\{{\n)', bodies.get((crate, stem), ''), re.M | re.S)
+    if not head or 'requires' in head[1]:
+        bad.append(f'the entry {name} of {crate} has a requires')
 for word in re.findall(r'`([^`]+)`', text):
     place = re.fullmatch(r'([a-z_]+)/([A-Z]\w*)(?:\.(\S+))?', word)
     if place:
