@@ -37,10 +37,11 @@ fn float(tape: &[u8], at: usize) -> Command
     requires { ⌜ (at < length (now tape)) × (single (getD (now tape) at 0) ≡ true) ⌝ }
     ensures { λ r. ⌜ (meant r ≡ decoding (now (tape .entry)) at) × few r ⌝ }
 {
-    if tape.len() - at < 5 {
+    let next = at + 5;
+    if tape.len() < next {
         return Command::Bad;
     }
-    Command::Float(tape[at], quad(tape, at + 1), at + 5)
+    Command::Float(tape[at], quad(tape, at + 1), next)
 }
 
 // 56 at a position.
@@ -48,10 +49,11 @@ fn point(tape: &[u8], at: usize) -> Command
     requires { ⌜ (at < length (now tape)) × (getD (now tape) at 0 ≡ 0x56) ⌝ }
     ensures { λ r. ⌜ (meant r ≡ decoding (now (tape .entry)) at) × few r ⌝ }
 {
-    if tape.len() - at < 5 {
+    let next = at + 5;
+    if tape.len() < next {
         return Command::Bad;
     }
-    Command::Points(1, signed(quad(tape, at + 1)), at + 5)
+    Command::Points(1, signed(quad(tape, at + 1)), next)
 }
 
 // 52 at a position.
@@ -59,48 +61,49 @@ fn repeated(tape: &[u8], at: usize) -> Command
     requires { ⌜ (at < length (now tape)) × (getD (now tape) at 0 ≡ 0x52) ⌝ }
     ensures { λ r. ⌜ (meant r ≡ decoding (now (tape .entry)) at) × few r ⌝ }
 {
-    if tape.len() - at < 7 {
+    let next = at + 7;
+    if tape.len() < next {
         return Command::Bad;
     }
     let n = pair(tape, at + 1);
     if n == 0 {
         return Command::Bad;
     }
-    Command::Points(n as usize, signed(quad(tape, at + 3)), at + 7)
+    Command::Points(n as usize, signed(quad(tape, at + 3)), next)
 }
 
-// A command of a byte below 52.
-fn below(tape: &[u8], at: usize) -> Command
-    requires { ⌜ (at < length (now tape)) × (getD (now tape) at 0 < 0x52) ⌝ }
+// A command that is neither a 56 nor a 52: the floats stand apart by a range, so that the tests for 56 and 52 stay two.
+fn other(tape: &[u8], at: usize) -> Command
+    requires { ⌜ (at < length (now tape)) × (getD (now tape) at 0 ≡ 0x56 → ⊥) × (getD (now tape) at 0 ≡ 0x52 → ⊥) ⌝ }
     ensures { λ r. ⌜ (meant r ≡ decoding (now (tape .entry)) at) × few r ⌝ }
 {
+    if 0x4B <= tape[at] {
+        if 0x4D < tape[at] {
+            return Command::Bad;
+        }
+        if tape[at] % 2 == 0 {
+            return Command::Bad;
+        }
+        return float(tape, at);
+    }
     match tape[at] {
         0x41 => axis(tape, at),
         0x42 => boards(tape, at),
         0x45 => Command::End(at + 1),
-        0x4B | 0x4D => float(tape, at),
         _ => Command::Bad,
     }
 }
 
-// The command at a position. 56 and 52, which are most of a tape, are found by comparisons before the jump by the other bytes.
+// The command at a position.
 pub fn decode(tape: &[u8], at: usize) -> Command
     ensures { λ r. ⌜ (meant r ≡ decoding (now (tape .entry)) at) × few r ⌝ }
 {
     if tape.len() <= at {
         return Command::Bad;
     }
-    if 0x56 <= tape[at] {
-        return match tape[at] {
-            0x56 => point(tape, at),
-            _ => Command::Bad,
-        };
+    match tape[at] {
+        0x56 => point(tape, at),
+        0x52 => repeated(tape, at),
+        _ => other(tape, at),
     }
-    if 0x52 <= tape[at] {
-        return match tape[at] {
-            0x52 => repeated(tape, at),
-            _ => Command::Bad,
-        };
-    }
-    below(tape, at)
 }

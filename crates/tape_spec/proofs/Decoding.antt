@@ -1,5 +1,5 @@
 -- Laws of decoding: the command at a position is the next of the tape's commands, and the command that a byte begins.
-use Prim.Native.Nat.{ℕ, zero, suc, _+_, _-_, _≤_, _<_}
+use Prim.Native.Nat.{ℕ, zero, suc, _+_, _-_, _%_, _≤_, _<_}
 use mathlib.Core.Path.{_≡_, refl, sym, ap, _∙_}
 use mathlib.Core.Logic.{_⊎_, inl, inr}
 use mathlib.Core.Bool.{true, false}
@@ -7,7 +7,7 @@ use mathlib.Core.Option.{Option, none, some}
 use mathlib.Core.List.{List, [], _∷_}
 use native.Mathlib.Omega.{arith}
 use native.Mathlib.Numerals.{add-one}
-use borrow.Author.Tests.{eqb-true, ne-eqb, ltb-true, ltb-false, lt-ltb, le-ltb}
+use borrow.Author.Tests.{eqb-true, eqb-false, ne-eqb, ltb-true, ltb-false, lt-ltb, le-ltb}
 use lib.Dec.{eqb, ltb}
 use lib.ListN.{length, getD, drop, take, length-drop, drop-of-length-le}
 use lib.Seq.{drop-cons, drop-drop}
@@ -221,6 +221,22 @@ pub not-single : (c : ℕ) → (c ≡ 0x56 → ⊥) → ((c ≡ 0x4B) ⊎ (c ≡
 unfolding single
 not-single c h k = rw (ne-eqb c 0x56 h, ne-eqb c 0x4D (λ e. k (inr e)), ne-eqb c 0x4B (λ e. k (inl e)))
 
-pub never-float : (c : ℕ) → 0x52 ≤ c → (c ≡ 0x4B) ⊎ (c ≡ 0x4D) → ⊥
-never-float c h (inl e) = omega arith
-never-float c h (inr e) = omega arith
+-- bytes that are no float's: past 4D, below 4B, and even ones
+pub past-float : (c : ℕ) → 0x4D < c → (c ≡ 0x4B) ⊎ (c ≡ 0x4D) → ⊥
+past-float c h (inl e) = omega arith
+past-float c h (inr e) = omega arith
+
+pub before-float : (c : ℕ) → c < 0x4B → (c ≡ 0x4B) ⊎ (c ≡ 0x4D) → ⊥
+before-float c h (inl e) = omega arith
+before-float c h (inr e) = omega arith
+
+pub even-float : (c : ℕ) → c % 2 ≡ 0 → (c ≡ 0x4B) ⊎ (c ≡ 0x4D) → ⊥
+even-float c h (inl e) = omega arith
+even-float c h (inr e) = omega arith
+
+-- an odd byte from 4B to 4D
+pub odd-float : (c : ℕ) → 0x4B ≤ c → c ≤ 0x4D → (c % 2 ≡ 0 → ⊥) → single c ≡ true
+odd-float c a b h = by (eqb c 0x4B) (λ t. is-float c (inl (eqb-true c 0x4B t))) (λ t. is-float c (inr (go t)))
+  where
+    go : eqb c 0x4B ≡ false → c ≡ 0x4D
+    go t = let n = eqb-false c 0x4B t in by (eqb c 0x4C) (λ u. absurd (h (rw (eqb-true c 0x4C u)))) (λ u. let m = eqb-false c 0x4C u in omega (arith, n, m))

@@ -1,5 +1,6 @@
 -- `tape_command::repeated` meets its contract. A 52 with its operands, cut short, or of count 0.
 use mathlib.Core.Path.{sym, _∙_}
+use native.Mathlib.Omega.{arith}
 use mir.Syntax.{w32}
 use mir.Val.{SFits}
 use mir.Facts.{toZ-ofZ}
@@ -9,11 +10,11 @@ use Rattle.tape_spec.proofs.Decoding as laws
 use Rattle.tape_command.proofs.repeated.Statement.{statement}
 use Rattle.tape_command.proofs.repeated.Tie as tie
 
-sub-if1 : tie.Need-sub-if1
-sub-if1 c = search needs
+add-next : tie.Need-add-next
+add-next c = search needs
 
 returns : tie.Need-returns
-returns c = let s = c .before .before in (laws.repeated-cut _ _ (s .pre .0) (s .pre .1) (c .if1 .taken), tt)
+returns c = let s = c .before .before in (laws.repeated-cut _ _ (s .pre .0) (s .pre .1) (omega arith), tt)
 
 add-pair : tie.Need-add-pair
 add-pair c = search needs
@@ -24,10 +25,10 @@ pair-requires c κs = search needs
 returns-2 : tie.Need-returns-2
 returns-2 c =
     let s = c .before .before .before .before in
-    (laws.repeated-never _ _ (s .pre .0) (s .pre .1) (c .before .before .if1 .left) (sym (c .before .pair .ensures) ∙ c .if2 .taken), tt)
+    (laws.repeated-never _ _ (s .pre .0) (s .pre .1) (omega arith) (sym (c .before .pair .ensures) ∙ c .if2 .taken), tt)
 
-cast-t4 : tie.Need-cast-t4
-cast-t4 c = search needs
+cast-t5 : tie.Need-cast-t5
+cast-t5 c = search needs
 
 add-quad : tie.Need-add-quad
 add-quad c = search needs
@@ -38,9 +39,6 @@ quad-requires c κs = search needs
 signed-requires : tie.Need-signed-requires
 signed-requires c κs = search needs
 
-add-t9 : tie.Need-add-t9
-add-t9 c = search needs
-
 returns-3 : tie.Need-returns-3
 unfolding readingOf
 returns-3 c =
@@ -48,20 +46,19 @@ returns-3 c =
     let q = c .before in
     let k = q .before .before in
     let s = k .before .before .before in
-    (rw (toZ-ofZ ok, c .signed .ensures, q .quad .ensures) (laws.repeated-told _ _ (s .pre .0) (s .pre .1) _ (k .before .if1 .left) (k .pair .ensures) (q .before .if2 .left)), search needs)
+    (rw (toZ-ofZ ok, c .signed .ensures, q .quad .ensures) (laws.repeated-told _ _ (s .pre .0) (s .pre .1) _ (omega arith) (k .pair .ensures) (q .before .if2 .left)), search needs)
 
 pub repeated-spec : {M : Type 1} → statement M
 repeated-spec =
     tie.close
     (tie.spec
-    sub-if1
+    add-next
     returns
     add-pair
     pair-requires
     returns-2
-    cast-t4
+    cast-t5
     add-quad
     quad-requires
     signed-requires
-    add-t9
     returns-3)
