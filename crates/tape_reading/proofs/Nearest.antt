@@ -1,6 +1,6 @@
 -- `nearest` is right: it is off by at most a half, no whole number is nearer, a half goes to the even one, and it is the only such number.
 -- So it goes by the fraction alone, however that is written.
-use Prim.Native.Nat.{ℕ, zero, suc, _+_, _-_, _*_, _/_, _%_, _≤_, _<_}
+use Prim.Native.Nat.{ℕ, zero, suc, _+_, _*_, _/_, _%_, _≤_, _<_}
 use mathlib.Core.Path.{_≡_, refl, sym, ap}
 use mathlib.Core.Bool.{Bool, true, false}
 use native.Mathlib.Nat.{div-add-mod', mod-lt, mul-le-mul-right, le-of-mul-le-mul-right, eq-of-mul-eq-mul-right}

@@ -68,6 +68,6 @@ readingOf command b =
     pick (eqb command 0x4D) (Reading′.Metres (ofBits binary32 b))
     (pick (eqb command 0x4B) (Reading′.Kilometres (ofBits binary32 b)) (Reading′.Centimetres (signed32 b)))
 
--- the same result from the bits alone (`proofs/Patterns.antt`)
+-- the same result from the bits alone (`proofs/Readings.antt`, `from-bits`)
 unfoldable pub fromBits : ℕ → ℕ → Reply ℤ
 fromBits scale b = pick (notFinite b) (refuses 14) (within (negative b) (nearest (parts b * scale) (2 ^ 149)))

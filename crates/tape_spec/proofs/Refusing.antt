@@ -8,7 +8,7 @@ use borrow.Author.Tests.{lt-ltb, le-ltb}
 use lib.ListN.{length}
 use lib.IntN.{ℤ}
 use Rattle.cube_spec.specs.Boxes.{pick}
-use Rattle.cube_spec.specs.Checks.{Check, check, first}
+use Rattle.cube_spec.specs.Checks.{Check, first}
 use Rattle.cube_spec.proofs.Dues.{Numbered, first-due, first-passed, none-both}
 use Rattle.tape_spec.specs.declared.types.Scan.{Scan}
 use Rattle.tape_spec.specs.Tapes.{Entry, form, Campaign, campaign}

@@ -5,7 +5,7 @@ use native.Mathlib.Omega.{arith}
 use borrow.Author.Needs.{needs}
 use lib.ListN.{length, drop}
 use Rattle.tape_spec.specs.Tapes.{commands}
-use Rattle.tape_spec.specs.Decoding.{meant, few, counted}
+use Rattle.tape_spec.specs.Decoding.{meant, counted}
 use Rattle.tape_spec.proofs.Decoding as decoding
 use Rattle.tape_spec.proofs.Scanning as laws
 use Rattle.tape_scan.proofs.count.Tie as tie
