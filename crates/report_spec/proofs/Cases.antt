@@ -18,7 +18,7 @@ pub printed-cases : prints cases ≡ outputs cases
 unfolding computing prints outputs cases
 printed-cases = refl
 
--- ---- 1 before 2, and 11 by the points and by the work area: at the limit, and one past it
+-- ---- 1 before 2, 11 by the points and by the work area, at the limit and one past it; and 14 and 15, after 2 and before 4
 
 unfoldable pub refusals : List Limit → List ℕ
 refusals [] = []

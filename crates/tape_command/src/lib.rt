@@ -72,7 +72,8 @@ fn repeated(tape: &[u8], at: usize) -> Command
     Command::Points(n as usize, signed(quad(tape, at + 3)), next)
 }
 
-// A command that is neither a 56 nor a 52: the floats stand apart by a range, so that the tests for 56 and 52 stay two.
+// A command that is neither a 56 nor a 52. 4B and 4D, the odd bytes from 4B to 4D, are told by a range and not by a case each, so that the compiler
+// keeps one plain test each for 56 and 52 (DECISIONS 89).
 fn other(tape: &[u8], at: usize) -> Command
     requires { ⌜ (at < length (now tape)) × (getD (now tape) at 0 ≡ 0x56 → ⊥) × (getD (now tape) at 0 ≡ 0x52 → ⊥) ⌝ }
     ensures { λ r. ⌜ (meant r ≡ decoding (now (tape .entry)) at) × few r ⌝ }

@@ -40,7 +40,7 @@ round-half n d h e H =
     nearest-only n d (a / d) D (near n d h (n / d) (n % d) (a / d) (a % d) e H (sym (div-add-mod' n d)) (mod-lt n D) (sym (div-add-mod' a d)) (mod-lt a D))
 
 -- the half as the machine shifts it, and what is below 2 ^ 62 leaves room for it
-pub half-is : (j : ℕ) → j ≤ 62 → 1 * 2 ^ (j - 1) % 2 ^ 64 ≡ 2 ^ (j - 1)
+half-is : (j : ℕ) → j ≤ 62 → 1 * 2 ^ (j - 1) % 2 ^ 64 ≡ 2 ^ (j - 1)
 half-is j l = let e = shl-exact {a = 1} 1 (j - 1) 64 (omega arith) (omega arith) in e ∙ omega arith
 
 pub half-pos : (j : ℕ) → j ≤ 62 → 0 < 1 * 2 ^ (j - 1) % 2 ^ 64

@@ -1,11 +1,10 @@
 -- The table of readings, computed by the checker.
 use mathlib.Core.Path.{_≡_, refl}
-use mathlib.Core.Bool.{true, false}
 use mathlib.Core.List.{List, [], _∷_, _++_}
 use lib.IntN.{ℤ, pos, negsuc}
 use Rattle.cube_spec.specs.Checks.{Reply, gives, refuses}
 use Rattle.tape_reading.specs.Computing.{computing}
-use Rattle.tape_reading.specs.Readings.{within, centimetresOf, readingOf}
+use Rattle.tape_reading.specs.Readings.{inRange, centimetresOf, readingOf}
 use Rattle.tape_reading.proofs.Listed.{Row, request, zero-or-one, ties, range, smallest, not-finite, fields, whole}
 
 unfoldable pub given : List Row → List (Reply ℤ)
@@ -26,9 +25,9 @@ unfolding computing given due rows
 table-holds = refl
 
 -- "outside −2,147,483,647 to 2,147,483,647": the ends of the range, which no float gives
-pub ends : (within false 2147483647 ≡ gives (pos 2147483647))
-    × (within true 2147483647 ≡ gives (negsuc 2147483646))
-    × (within false 2147483648 ≡ refuses 15)
-    × (within true 2147483648 ≡ refuses 15)
+pub ends : (inRange (pos 2147483647) ≡ gives (pos 2147483647))
+    × (inRange (negsuc 2147483646) ≡ gives (negsuc 2147483646))
+    × (inRange (pos 2147483648) ≡ refuses 15)
+    × (inRange (negsuc 2147483647) ≡ refuses 15)
 unfolding computing
 ends = (refl, refl, refl, refl)

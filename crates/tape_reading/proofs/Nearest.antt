@@ -10,7 +10,7 @@ use borrow.Author.Tests.{ltb-true, ltb-false, leb-true, leb-false}
 use lib.Dec.{ltb, leb}
 use lib.IntN.{ℤ, pos, negsuc}
 use Rattle.cube_spec.proofs.Sums.{by}
-use Rattle.tape_reading.specs.Nearest.{nearest, signed, off, offZ, size, Nearest, NearestZ}
+use Rattle.tape_reading.specs.Nearest.{nearest, signed, off, offZ, magnitude, Nearest, NearestZ}
 
 -- ---- the three cases: n / d is q and r / d more
 
@@ -26,7 +26,7 @@ half n d q r zero o e h = record { close = omega arith; even = λ z. omega arith
 half n d q r (suc zero) o e h = record { close = omega arith; even = λ z. omega arith }
 half n d q r (suc (suc p)) o e h = absurd (omega arith)
 
-pub nearest-right : (n d : ℕ) → 0 < d → Nearest n d (nearest n d)
+nearest-right : (n d : ℕ) → 0 < d → Nearest n d (nearest n d)
 unfolding nearest
 nearest-right n d D =
     let q = n / d in
@@ -69,7 +69,7 @@ nearest-only n d w D h =
     (λ u. let p = ltb-false w (nearest n d) t in let q = ltb-false (nearest n d) w u in omega arith))
 
 -- no whole number is nearer
-pub nearest-least : (n d w : ℕ) → 0 < d → off n d (nearest n d) ≤ off n d w
+nearest-least : (n d w : ℕ) → 0 < d → off n d (nearest n d) ≤ off n d w
 nearest-least n d w D =
     let v = nearest n d in
     let c = nearest-right n d D .close in
@@ -136,14 +136,14 @@ off-signed false n d w = refl
 off-signed true n d zero = omega arith
 off-signed true n d (suc w) = omega arith
 
-pub size-signed : (s : Bool) (w : ℕ) → size (signed s w) ≡ w
+pub magnitude-signed : (s : Bool) (w : ℕ) → magnitude (signed s w) ≡ w
 unfolding signed
-size-signed false w = refl
-size-signed true zero = refl
-size-signed true (suc w) = omega arith
+magnitude-signed false w = refl
+magnitude-signed true zero = refl
+magnitude-signed true (suc w) = omega arith
 
 -- of all whole numbers, negative ones too, none is nearer to ±n / d
-pub nearest-leastZ : (s : Bool) (n d : ℕ) (z : ℤ) → 0 < d → offZ s n d (signed s (nearest n d)) ≤ offZ s n d z
+nearest-leastZ : (s : Bool) (n d : ℕ) (z : ℤ) → 0 < d → offZ s n d (signed s (nearest n d)) ≤ offZ s n d z
 nearest-leastZ s n d z D = rw (off-signed s n d (nearest n d)) (go s z)
   where
     go : (s : Bool) (z : ℤ) → off n d (nearest n d) ≤ offZ s n d z
@@ -153,7 +153,7 @@ nearest-leastZ s n d z D = rw (off-signed s n d (nearest n d)) (go s z)
     go true (negsuc w) = unfold offZ in nearest-least n d (w + 1) D
 
 -- a number that is near enough has the sign, or is 0
-only-signed : (s : Bool) (n d : ℕ) (y : ℤ) → 0 < d → 2 * offZ s n d y ≤ d → (2 * offZ s n d y ≡ d → size y % 2 ≡ 0) → y ≡ signed s (nearest n d)
+only-signed : (s : Bool) (n d : ℕ) (y : ℤ) → 0 < d → 2 * offZ s n d y ≤ d → (2 * offZ s n d y ≡ d → magnitude y % 2 ≡ 0) → y ≡ signed s (nearest n d)
 unfolding offZ signed
 only-signed false n d (pos w) D c e = ap pos (nearest-only n d w D (record { close = c; even = e }))
 only-signed false n d (negsuc w) D c e = absurd (omega arith)
@@ -167,6 +167,6 @@ nearest-signed s n d D =
     record {
       close = rw (off-signed s n d (nearest n d)) (r .close);
       least = λ y. nearest-leastZ s n d y D;
-      even = λ z. rw (size-signed s (nearest n d)) (r .even (rw (off-signed s n d (nearest n d)) at z));
+      even = λ z. rw (magnitude-signed s (nearest n d)) (r .even (rw (off-signed s n d (nearest n d)) at z));
       only = λ y c e. only-signed s n d y D c e;
     }

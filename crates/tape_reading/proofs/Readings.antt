@@ -16,21 +16,21 @@ use Rattle.cube_spec.proofs.Sums.{by}
 use Rattle.cube_spec.proofs.Naturals.{clash}
 use Rattle.tape_reading.specs.declared.types.Reading.{Reading}
 use Rattle.tape_reading.specs.declared.types.Reading.the-variants as Reading′
-use Rattle.tape_reading.specs.Nearest.{nearest, signed, Nearest}
+use Rattle.tape_reading.specs.Nearest.{nearest, signed, magnitude, Nearest}
 use Rattle.tape_reading.specs.Patterns.{negative, field, digits, notFinite, mantissaOf, powerOf, parts}
-use Rattle.tape_reading.specs.Readings.{metre, kilometre, largest, within, inCentimetres, centimetresOf, refusalIn, fromBits}
-use Rattle.tape_reading.specs.Rounding.{inRange, Rounds}
-use Rattle.tape_reading.proofs.Nearest.{nearest-only, nearest-same, size-signed, nearest-signed}
+use Rattle.tape_reading.specs.Readings.{metre, kilometre, largest, inRange, inCentimetres, centimetresOf, refusalIn, fromBits}
+use Rattle.tape_reading.specs.Rounding.{Rounds}
+use Rattle.tape_reading.proofs.Nearest.{nearest-only, nearest-same, magnitude-signed, nearest-signed}
 
 -- ---- by the exact value: a float that is ±a / c, however it is written
 
-pub by-value : (scale : ℕ) (x : Float) (s : Bool) (a c : ℕ) → 0 < c → HasValue x s a c → inCentimetres scale x ≡ within s (nearest (a * scale) c)
+by-value : (scale : ℕ) (x : Float) (s : Bool) (a c : ℕ) → 0 < c → HasValue x s a c → inCentimetres scale x ≡ inRange (signed s (nearest (a * scale) c))
 unfolding inCentimetres
 by-value scale nan s a c C v = absurd v
 by-value scale (inf t) s a c C v = absurd v
 by-value scale (fin t m e) s a c C v =
     let q = v .1 in
-    ap₂ within (v .0) (nearest-same (m * up e * scale) (down e) (a * scale) c (down-pos e) C (let k = ap (λ y. y * scale) q in omega arith))
+    ap₂ (λ s w. inRange (signed s w)) (v .0) (nearest-same (m * up e * scale) (down e) (a * scale) c (down-pos e) C (let k = ap (λ y. y * scale) q in omega arith))
 
 -- ---- from the bits
 
@@ -57,7 +57,7 @@ pub none-finite : (scale b : ℕ) → notFinite b ≡ true → inCentimetres sca
 unfolding ofBits negative notFinite field digits
 none-finite scale b h = fields-none scale (negative b) (field b) (digits b) h
 
-all-finite : (scale b : ℕ) → notFinite b ≡ false → inCentimetres scale (ofBits binary32 b) ≡ within (negative b) (nearest (parts b * scale) (2 ^ 149))
+all-finite : (scale b : ℕ) → notFinite b ≡ false → inCentimetres scale (ofBits binary32 b) ≡ inRange (signed (negative b) (nearest (parts b * scale) (2 ^ 149)))
 all-finite scale b h = by-value scale (ofBits binary32 b) (negative b) (parts b) (2 ^ 149) (pow-pos 149) (exact-value b h)
 
 pub from-bits : (scale b : ℕ) → inCentimetres scale (ofBits binary32 b) ≡ fromBits scale b
@@ -66,10 +66,6 @@ from-bits scale b = by (notFinite b) (λ t. rw t (none-finite scale b t)) (λ t.
 
 -- ---- every pattern is rounded right
 
-within-is : (s : Bool) (w : ℕ) → within s w ≡ inRange (signed s w)
-unfolding within inRange
-within-is s w = rw (size-signed s w)
-
 pub rounded-right : (scale b : ℕ) → notFinite b ≡ false → Rounds scale b (inCentimetres scale (ofBits binary32 b))
 rounded-right scale b h =
     let n = parts b * scale in
@@ -77,29 +73,29 @@ rounded-right scale b h =
       finite = h;
       z = signed (negative b) (nearest n (2 ^ 149));
       nearest = nearest-signed (negative b) n (2 ^ 149) (pow-pos 149);
-      is = all-finite scale b h ∙ within-is (negative b) (nearest n (2 ^ 149));
+      is = all-finite scale b h;
     }
 
 -- ---- `nearest` decides: the one number that is nearest is given where it lies in the range, and 15 where it does not
 
-pub within-in : (s : Bool) (w : ℕ) → w ≤ largest → within s w ≡ gives (signed s w)
-unfolding within
-within-in s w l = rw (le-ltb largest w l)
+pub in-range : (s : Bool) (w : ℕ) → w ≤ largest → inRange (signed s w) ≡ gives (signed s w)
+unfolding inRange
+in-range s w l = rw (magnitude-signed s w, le-ltb largest w l)
 
-pub within-out : (s : Bool) (w : ℕ) → largest < w → within s w ≡ refuses 15
-unfolding within
-within-out s w l = rw (lt-ltb largest w l)
+pub out-of-range : (s : Bool) (w : ℕ) → largest < w → inRange (signed s w) ≡ refuses 15
+unfolding inRange
+out-of-range s w l = rw (magnitude-signed s w, lt-ltb largest w l)
 
 module _ (scale : ℕ) (s : Bool) (m : ℕ) (e : ℤ) (w : ℕ) (h : Nearest (m * up e * scale) (down e) w) where
-  decided : inCentimetres scale (fin s m e) ≡ within s w
+  decided : inCentimetres scale (fin s m e) ≡ inRange (signed s w)
   unfolding inCentimetres
-  decided = ap (within s) (sym (nearest-only (m * up e * scale) (down e) w (down-pos e) h))
+  decided = ap (λ w. inRange (signed s w)) (sym (nearest-only (m * up e * scale) (down e) w (down-pos e) h))
 
   pub given : w ≤ largest → inCentimetres scale (fin s m e) ≡ gives (signed s w)
-  given l = decided ∙ within-in s w l
+  given l = decided ∙ in-range s w l
 
   pub outside : largest < w → inCentimetres scale (fin s m e) ≡ refuses 15
-  outside l = decided ∙ within-out s w l
+  outside l = decided ∙ out-of-range s w l
 
 -- ---- the other sign
 
@@ -118,8 +114,8 @@ other-sign scale nan = refl
 other-sign scale (inf s) = refl
 other-sign scale (fin s m e) = go (nearest (m * up e * scale) (down e))
   where
-    go : (w : ℕ) → within (not s) w ≡ mirrored (within s w)
-    go w = unfold within in by (ltb largest w) (λ t. rw t) (λ t. rw (t, signed-not s w))
+    go : (w : ℕ) → inRange (signed (not s) w) ≡ mirrored (inRange (signed s w))
+    go w = unfold inRange in rw (magnitude-signed (not s) w, magnitude-signed s w) (by (ltb largest w) (λ t. rw t) (λ t. rw (t, signed-not s w)))
 
 -- ---- both zeros give 0, at any scale
 
@@ -135,15 +131,15 @@ zeros scale s = given scale s 0 (pos 0) 0 (record { close = omega arith; even = 
 abbrev pub Kind : ℕ → Type 0
 Kind n = (n ≡ 0) ⊎ ((n ≡ 14) ⊎ (n ≡ 15))
 
-within-kind : (s : Bool) (w : ℕ) → Kind (refusalIn (within s w))
-unfolding within
-within-kind s w = by (ltb largest w) (λ t. rw t (inr (inr refl))) (λ t. rw t (inl refl))
+range-kind : (z : ℤ) → Kind (refusalIn (inRange z))
+unfolding inRange
+range-kind z = by (ltb largest (magnitude z)) (λ t. rw t (inr (inr refl))) (λ t. rw t (inl refl))
 
 float-kind : (scale : ℕ) (x : Float) → Kind (refusalIn (inCentimetres scale x))
 unfolding inCentimetres
 float-kind scale nan = inr (inl refl)
 float-kind scale (inf s) = inr (inl refl)
-float-kind scale (fin s m e) = within-kind s (nearest (m * up e * scale) (down e))
+float-kind scale (fin s m e) = range-kind (signed s (nearest (m * up e * scale) (down e)))
 
 pub refusal-kind : (r : Reading) → Kind (refusalIn (centimetresOf r))
 unfolding centimetresOf

@@ -1,4 +1,4 @@
--- A size with its sign, as the machine's 32 bits have it.
+-- Whole centimetres with their sign, as the machine's 32 bits have it.
 use Prim.Native.Nat.{ℕ, zero, suc, _≤_}
 use mathlib.Core.Path.{_≡_, ap, _∙_}
 use mathlib.Core.Bool.{Bool, true, false}

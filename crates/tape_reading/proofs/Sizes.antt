@@ -12,10 +12,10 @@ use Rattle.cube_spec.proofs.Sums.{by}
 use Rattle.tape_reading.specs.Nearest.{nearest, signed}
 use Rattle.tape_reading.specs.Computing.{computing}
 use Rattle.tape_reading.specs.Patterns.{negative, field, digits, notFinite, mantissaOf, powerOf, parts}
-use Rattle.tape_reading.specs.Readings.{metre, kilometre, largest, within, refusalIn, valueIn, fromBits}
+use Rattle.tape_reading.specs.Readings.{metre, kilometre, largest, inRange, refusalIn, valueIn, fromBits}
 use Rattle.tape_reading.specs.inner.Taken.{Taken, Refuses}
 use Rattle.tape_reading.proofs.Nearest.{nearest-mono}
-use Rattle.tape_reading.proofs.Readings.{within-in, within-out}
+use Rattle.tape_reading.proofs.Readings.{in-range, out-of-range}
 
 -- ---- the order of sizes
 
@@ -70,7 +70,7 @@ bordered : (scale last v w : ℕ) → scale ≤ 100000 → last ≤ 0x4BA3D70A �
     → nearest (parts (last + 1) * scale) (2 ^ 149) ≡ w → largest < w → Taken scale last
 bordered scale last v w s f e l g m = record {
   small = s;
-  finite = f;
+  bounded = f;
   taken = λ size h. let k = given-mono scale size last h (omega arith) in omega arith;
   far = λ size h i. let k = given-mono scale (last + 1) size (omega arith) (omega arith) in omega arith;
 }
@@ -107,16 +107,16 @@ module _ (b : ℕ) where
   unfolding fromBits notFinite field
   not-finite scale h = rw (eq-eqb (b % 2 ^ 31 / 2 ^ 23) 255 (omega arith))
 
-  finite : (scale : ℕ) → b % 2 ^ 31 < 0x7F800000 → fromBits scale b ≡ within (negative b) (nearest (parts (b % 2 ^ 31) * scale) (2 ^ 149))
+  finite : (scale : ℕ) → b % 2 ^ 31 < 0x7F800000 → fromBits scale b ≡ inRange (signed (negative b) (nearest (parts (b % 2 ^ 31) * scale) (2 ^ 149)))
   unfolding fromBits notFinite field
   finite scale h = rw (ne-eqb (b % 2 ^ 31 / 2 ^ 23) 255 (λ e. omega arith), parts-size b)
 
   -- whole centimetres
   pub inside : (scale last w : ℕ) → Taken scale last → b % 2 ^ 31 ≤ last → w ≡ nearest (parts (b % 2 ^ 31) * scale) (2 ^ 149) → gives (signed (negative b) w) ≡ fromBits scale b
   inside scale last w t h e =
-      let f = t .finite in
+      let f = t .bounded in
       let l = t .taken (b % 2 ^ 31) h in
-      sym (finite scale (omega arith) ∙ ap (within (negative b)) (sym e) ∙ within-in (negative b) w (omega arith))
+      sym (finite scale (omega arith) ∙ ap (λ w. inRange (signed (negative b) w)) (sym e) ∙ in-range (negative b) w (omega arith))
 
   module _ (last : ℕ) where
     abbrev gets : ℕ → Type 0
@@ -126,7 +126,7 @@ module _ (b : ℕ) where
     none-refused h scale t = ap refusalIn (inside scale last (nearest (parts (b % 2 ^ 31) * scale) (2 ^ 149)) t h refl)
 
     pub far-refused : last < b % 2 ^ 31 → b % 2 ^ 31 < 0x7F800000 → gets 15
-    far-refused h l scale t = ap refusalIn (sym (finite scale l ∙ within-out (negative b) (nearest (parts (b % 2 ^ 31) * scale) (2 ^ 149)) (t .far (b % 2 ^ 31) h l)))
+    far-refused h l scale t = ap refusalIn (sym (finite scale l ∙ out-of-range (negative b) (nearest (parts (b % 2 ^ 31) * scale) (2 ^ 149)) (t .far (b % 2 ^ 31) h l)))
 
     pub no-number-refused : 0x7F800000 ≤ b % 2 ^ 31 → gets 14
     no-number-refused h scale t = ap refusalIn (sym (not-finite scale h))
@@ -137,7 +137,7 @@ module _ (b : ℕ) where
         by (ltb (b % 2 ^ 31) 0x7F800000)
         (λ u.
         let l = ltb-true (b % 2 ^ 31) 0x7F800000 u in
-        ap valueIn (sym (finite scale l ∙ within-out (negative b) (nearest (parts (b % 2 ^ 31) * scale) (2 ^ 149)) (t .far (b % 2 ^ 31) h l))))
+        ap valueIn (sym (finite scale l ∙ out-of-range (negative b) (nearest (parts (b % 2 ^ 31) * scale) (2 ^ 149)) (t .far (b % 2 ^ 31) h l))))
         (λ u. ap valueIn (sym (not-finite scale (ltb-false (b % 2 ^ 31) 0x7F800000 u))))
 
     -- what is not refused is given

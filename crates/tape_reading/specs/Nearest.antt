@@ -40,13 +40,14 @@ offZ false n d (negsuc w) = n + (w + 1) * d
 offZ true n d (pos w) = n + w * d
 offZ true n d (negsuc w) = off n d (w + 1)
 
-abbrev pub size : ℤ → ℕ
-size (pos w) = w
-size (negsuc w) = w + 1
+-- a whole number without its sign
+abbrev pub magnitude : ℤ → ℕ
+magnitude (pos w) = w
+magnitude (negsuc w) = w + 1
 
 -- the whole number z is nearest to ±n / d: it is off by at most a half, no whole number is nearer, a half goes to the even one, and no other is so
 pub record NearestZ (s : Bool) (n d : ℕ) (z : ℤ) : Type 0 where
   pub close : 2 * offZ s n d z ≤ d
   pub least : (y : ℤ) → offZ s n d z ≤ offZ s n d y
-  pub even : 2 * offZ s n d z ≡ d → size z % 2 ≡ 0
-  pub only : (y : ℤ) → 2 * offZ s n d y ≤ d → (2 * offZ s n d y ≡ d → size y % 2 ≡ 0) → y ≡ z
+  pub even : 2 * offZ s n d z ≡ d → magnitude z % 2 ≡ 0
+  pub only : (y : ℤ) → 2 * offZ s n d y ≤ d → (2 * offZ s n d y ≡ d → magnitude y % 2 ≡ 0) → y ≡ z

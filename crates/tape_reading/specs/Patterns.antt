@@ -1,4 +1,4 @@
--- Single precision, from its 32 bits: the sign, then 8 bits for the power (the field), then 23 digits. A finite number is ±M · 2^E for a whole M;
+-- Single precision, from its 32 bits: the sign, then 8 bits of exponent (here the field), then 23 bits of fraction (here the digits). A finite number is ±M · 2^E for a whole M;
 -- E is −149 or more, and E + 149 is used in its place.
 use Prim.Native.Nat.{ℕ, zero, suc, _+_, _*_, _/_, _%_, _^_}
 use mathlib.Core.Bool.{Bool}

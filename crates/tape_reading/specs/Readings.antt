@@ -1,6 +1,5 @@
 -- "A reading arrives as whole centimetres, as metres in single precision or as kilometres in single precision."
 use Prim.Native.Nat.{ℕ, _*_, _^_}
-use mathlib.Core.Bool.{Bool}
 use lib.Dec.{ltb, eqb}
 use lib.IntN.{ℤ, pos}
 use lib.Ieee.{Float, nan, inf, fin, up, down, binary32, ofBits}
@@ -12,7 +11,7 @@ use Rattle.tape_reading.specs.declared.types.Reading.{Reading}
 use Rattle.tape_reading.specs.declared.types.Reading.the-variants as Reading′
 use Rattle.tape_reading.specs.declared.types.Answer.{Answer}
 use Rattle.tape_reading.specs.declared.types.Answer.the-variants as Answer′
-use Rattle.tape_reading.specs.Nearest.{nearest, signed}
+use Rattle.tape_reading.specs.Nearest.{nearest, signed, magnitude}
 use Rattle.tape_reading.specs.Patterns.{negative, notFinite, parts}
 
 -- centimetres in a metre and in a kilometre
@@ -26,15 +25,15 @@ kilometre = 100000
 abbrev pub largest : ℕ
 largest = 2147483647
 
-unfoldable pub within : Bool → ℕ → Reply ℤ
-within s w = pick (ltb largest w) (refuses 15) (gives (signed s w))
+unfoldable pub inRange : ℤ → Reply ℤ
+inRange z = pick (ltb largest (magnitude z)) (refuses 15) (gives z)
 
 -- "The result is the whole centimetre nearest to the float's exact value, halves to the even one", and "14 for a float that is infinite or not a number".
 -- The number `fin s m e` is ±m · 2^e, and 2^e is the fraction up e / down e.
 unfoldable pub inCentimetres : ℕ → Float → Reply ℤ
 inCentimetres scale nan = refuses 14
 inCentimetres scale (inf s) = refuses 14
-inCentimetres scale (fin s m e) = within s (nearest (m * up e * scale) (down e))
+inCentimetres scale (fin s m e) = inRange (signed s (nearest (m * up e * scale) (down e)))
 
 -- "Whole-centimetre points load as before."
 unfoldable pub centimetresOf : Reading → Reply ℤ
@@ -62,7 +61,7 @@ valueIn (refuses n) = pos 0
 unfoldable pub signed32 : ℕ → ℤ
 signed32 b = toZ w32 b
 
--- "4D (metres) and 4B (kilometres), both hex, carry the four bytes of the float"; 56 and 52 whole centimetres
+-- "4D (metres) and 4B (kilometres), both hex, carry the four bytes of the float"; any other command, and so 56 and 52, whole centimetres
 unfoldable pub readingOf : ℕ → ℕ → Reading
 readingOf command b =
     pick (eqb command 0x4D) (Reading′.Metres (ofBits binary32 b))
@@ -70,4 +69,4 @@ readingOf command b =
 
 -- the same result from the bits alone (`proofs/Readings.antt`, `from-bits`)
 unfoldable pub fromBits : ℕ → ℕ → Reply ℤ
-fromBits scale b = pick (notFinite b) (refuses 14) (within (negative b) (nearest (parts b * scale) (2 ^ 149)))
+fromBits scale b = pick (notFinite b) (refuses 14) (inRange (signed (negative b) (nearest (parts b * scale) (2 ^ 149))))

@@ -3,17 +3,11 @@
 use Prim.Native.Nat.{ℕ, _*_, _^_}
 use mathlib.Core.Path.{_≡_}
 use mathlib.Core.Bool.{false}
-use lib.Dec.{ltb}
 use lib.IntN.{ℤ}
-use Rattle.cube_spec.specs.Boxes.{pick}
-use Rattle.cube_spec.specs.Checks.{Reply, gives, refuses}
-use Rattle.tape_reading.specs.Nearest.{size, NearestZ}
+use Rattle.cube_spec.specs.Checks.{Reply}
+use Rattle.tape_reading.specs.Nearest.{NearestZ}
 use Rattle.tape_reading.specs.Patterns.{negative, notFinite, parts}
-use Rattle.tape_reading.specs.Readings.{largest}
-
--- "15 for a result outside −2,147,483,647 to 2,147,483,647"
-unfoldable pub inRange : ℤ → Reply ℤ
-inRange z = pick (ltb largest (size z)) (refuses 15) (gives z)
+use Rattle.tape_reading.specs.Readings.{inRange}
 
 -- b is finite, and r is the nearest whole number, if that lies in the range: the exact value of b is ± its parts · 2^−149 (`exact-value`)
 pub record Rounds (scale b : ℕ) (r : Reply ℤ) : Type 0 where

@@ -100,7 +100,7 @@ fn rounded(n: u64, j: u32) -> u64
 }
 
 // The whole centimetres of a size that is taken: the field stands above 23 digits. Below field 91 all are under half a centimetre, so the others
-// have their leading one, 2^23.
+// have their leading one, 2^23. The number is mantissa · 2^(field − 150); with eight times the mantissa, the shift is 2 to 62.
 fn whole(size: u32, scale: u64) -> u64
     requires { ⌜ (size ≤ 0x4BA3D70A) × (scale ≤ 100000) ⌝ }
     ensures { λ r. ⌜ r ≡ Nearest.nearest (parts size * scale) (2 ^ 149) ⌝ }
@@ -113,7 +113,7 @@ fn whole(size: u32, scale: u64) -> u64
     rounded(8 * mantissa * scale, 153 - field)
 }
 
-// A size with its sign.
+// Whole centimetres with their sign.
 fn with_sign(negative: bool, w: u64) -> i32
     requires { ⌜ w ≤ 2147483647 ⌝ }
     ensures { λ r. ⌜ r ≡ Nearest.signed negative w ⌝ }

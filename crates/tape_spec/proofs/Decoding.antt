@@ -61,7 +61,7 @@ module _ (tape : List ℕ) (at : ℕ) where
           rw (i, j) (record { more = omega arith; within = omega arith; is = y ∙ rw (q, rest-at tape at p) })
       go bad q no-rest h = impossible (cc)
 
-  pub tells-none : nothing ≡ decoding tape at → firstThen (firstOf (drop at tape)) commands ≡ none
+  tells-none : nothing ≡ decoding tape at → firstThen (firstOf (drop at tape)) commands ≡ none
   unfolding decoding told firstThen
   tells-none e = go (firstOf (drop at tape)) e
     where
@@ -103,7 +103,7 @@ module _ (l : List ℕ) (n at : ℕ) (k : ℕ → List ℕ → First) where
   whole h = let d = length-drop at l in rw (le-ltb (length (drop at l)) n (omega arith), drop-drop n at l)
 
 -- the three commands of a single reading
-pub by-single : (P : ℕ → Type 0) (c : ℕ) → single c ≡ true → P 0x56 → P 0x4D → P 0x4B → P c
+by-single : (P : ℕ → Type 0) (c : ℕ) → single c ≡ true → P 0x56 → P 0x4D → P 0x4B → P c
 unfolding single
 by-single P c t x y z =
     by (eqb c 0x56) (λ a. rw (eqb-true c 0x56 a) x)
@@ -208,7 +208,7 @@ unfolding decoding told firstOf
 past-told l at h = rw (drop-of-length-le l h)
 
 -- a 56 and a float are single readings; a byte that is neither
-pub is-float : (c : ℕ) → (c ≡ 0x4B) ⊎ (c ≡ 0x4D) → single c ≡ true
+is-float : (c : ℕ) → (c ≡ 0x4B) ⊎ (c ≡ 0x4D) → single c ≡ true
 unfolding single
 is-float c (inl e) = rw e
 is-float c (inr e) = rw e

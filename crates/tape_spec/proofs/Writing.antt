@@ -48,11 +48,11 @@ begun : (c : Command) (l r : List ℕ) → 0 < length (l ++ r) → firstOf (l ++
 unfolding firstThen
 begun c l r h e = commands-next (l ++ r) h ∙ rw e
 
-pub reads-axis : (d : ℕ) (r : List ℕ) → d < 2 ^ 16 → commands (axisCommand d ++ r) ≡ prepend (axis d) (commands r)
+reads-axis : (d : ℕ) (r : List ℕ) → d < 2 ^ 16 → commands (axisCommand d ++ r) ≡ prepend (axis d) (commands r)
 unfolding axisCommand firstOf
 reads-axis d r h = begun (axis d) (axisCommand d) r (omega arith) (reads-two d r (λ n s. found (axis n) s) h)
 
-pub reads-boards : (p : ℕ) (r : List ℕ) → commands (boardsCommand p ++ r) ≡ prepend (boards p) (commands r)
+reads-boards : (p : ℕ) (r : List ℕ) → commands (boardsCommand p ++ r) ≡ prepend (boards p) (commands r)
 unfolding boardsCommand firstOf operand little
 reads-boards p r = begun (boards p) (boardsCommand p) r (omega arith) (rw (le-ltb (suc (length r)) 1 (omega arith)) (ap (λ n. found (boards n) r) (let z : p + 256 * 0 ≡ p = omega arith in z)))
 
@@ -61,7 +61,7 @@ whole : (v : ℤ) → SFits w32 v → signed32 (ofZ w32 v) ≡ v
 unfolding signed32
 whole v f = toZ-ofZ f
 
-pub reads-point : (v : ℤ) (r : List ℕ) → SFits w32 v → commands (pointCommand v ++ r) ≡ prepend (points 1 (Reading′.Centimetres v)) (commands r)
+reads-point : (v : ℤ) (r : List ℕ) → SFits w32 v → commands (pointCommand v ++ r) ≡ prepend (points 1 (Reading′.Centimetres v)) (commands r)
 unfolding pointCommand firstOf single readingOf
 reads-point v r f =
     begun (points 1 (Reading′.Centimetres v)) (pointCommand v) r (omega arith)
@@ -80,7 +80,7 @@ reads-logged (centimetres v) r f = reads-point v r f
 reads-logged (metres b) r f = begun (points 1 (loggedReading (metres b))) (loggedCommand (metres b)) r (omega arith) (reads-four b r (λ n s. found (points 1 (readingOf 0x4D n)) s) f)
 reads-logged (kilometres b) r f = begun (points 1 (loggedReading (kilometres b))) (loggedCommand (kilometres b)) r (omega arith) (reads-four b r (λ n s. found (points 1 (readingOf 0x4B n)) s) f)
 
-pub reads-repeat : (n : ℕ) (v : ℤ) (r : List ℕ) → 0 < n → n < 2 ^ 16 → SFits w32 v → commands (repeatCommand n v ++ r) ≡ prepend (points n (Reading′.Centimetres v)) (commands r)
+reads-repeat : (n : ℕ) (v : ℤ) (r : List ℕ) → 0 < n → n < 2 ^ 16 → SFits w32 v → commands (repeatCommand n v ++ r) ≡ prepend (points n (Reading′.Centimetres v)) (commands r)
 unfolding repeatCommand firstOf single readingOf
 reads-repeat n v r z h f =
     begun (points n (Reading′.Centimetres v)) (repeatCommand n v) r (omega arith)
@@ -94,7 +94,7 @@ reads-repeat n v r z h f =
     counted zero z = absurd (omega arith)
     counted (suc n) z = unfold repeated in refl
 
-pub reads-end : commands endCommand ≡ some (end ∷ [])
+reads-end : commands endCommand ≡ some (end ∷ [])
 unfolding endCommand firstOf firstThen single
 reads-end = commands-next endCommand (omega arith) ∙ rw commands-none
 
@@ -128,7 +128,7 @@ reads-all : (xs : List Logged) (l : List ℕ) → Every LoggedFits xs → comman
 reads-all xs l k = reads-each LoggedFits loggedCommand once (λ x r f. reads-logged x r f) xs l k
 
 -- the tape that is written has a 41 for each length, a 42, a command for each reading and a 45
-pub reads-tape : (ds : List ℕ) (p : ℕ) (xs : List Logged) → Every (λ d. d < 2 ^ 16) ds → Every LoggedFits xs
+reads-tape : (ds : List ℕ) (p : ℕ) (xs : List Logged) → Every (λ d. d < 2 ^ 16) ds → Every LoggedFits xs
     → commands (logged ds p xs) ≡ prependAll (mapped axis ds) (prepend (boards p) (prependAll (mapped once xs) (some (end ∷ []))))
 unfolding logged
 reads-tape ds p xs h k = rw (reads-headed ds p (each loggedCommand xs ++ endCommand) h, reads-all xs endCommand k, reads-end)

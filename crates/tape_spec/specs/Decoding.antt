@@ -30,7 +30,7 @@ meant (Float c b at) = placed (Tapes.points 1 (readingOf c b)) at
 meant (End at) = placed Tapes.end at
 meant Bad = nothing
 
--- a count of two bytes
+-- the count of a command of points fits two bytes
 abbrev pub few : Command → Type 0
 few (Axis d at) = Unit
 few (Boards p at) = Unit

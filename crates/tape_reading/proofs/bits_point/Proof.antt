@@ -16,7 +16,7 @@ returns c = none-given _ _ (c .if1 .taken) _ (c .before .pre)
 whole-requires : tie.Need-whole-requires
 whole-requires c κs =
     let t = c .before .pre in
-    let f = t .finite in
+    let f = t .bounded in
     (omega arith, t .small)
 
 with-sign-requires : tie.Need-with-sign-requires

@@ -9,7 +9,7 @@ use Rattle.tape_reading.specs.Readings.{largest, refusalIn}
 
 pub record Taken (scale last : ℕ) : Type 0 where
   pub small : scale ≤ 100000
-  pub finite : last ≤ 0x4BA3D70A
+  pub bounded : last ≤ 0x4BA3D70A
   pub taken : (size : ℕ) → size ≤ last → nearest (parts size * scale) (2 ^ 149) ≤ largest
   pub far : (size : ℕ) → last < size → size < 0x7F800000 → largest < nearest (parts size * scale) (2 ^ 149)
 
