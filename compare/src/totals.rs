@@ -37,7 +37,7 @@ fn print(bytes: &[u8], output: &mut impl Write) -> io::Result<()> {
     }
 }
 
-/// Refusals 1 to 7, 10 and 11 in order. Points are stored last of all.
+/// Refusals 1, 2, 14 or 15, 3 to 7, 10 and 11, in order. Points are stored last of all.
 pub fn accepted(bytes: &[u8]) -> Result<Campaign, Refusal> {
     let tape = tape::read(bytes)?;
     let plan = planned(&tape.lengths, tape.p)?;
