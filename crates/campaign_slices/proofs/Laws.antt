@@ -1,29 +1,21 @@
 -- Laws of a scan's cells and of its refusals.
-use Prim.Native.Nat.{ℕ, zero, suc, _+_, _<_}
+use Prim.Native.Nat.{ℕ, zero, suc, _+_}
 use mathlib.Core.Path.{_≡_, refl, sym, ap, _∙_}
-use mathlib.Core.List.{List, [], _∷_, append-nil}
+use mathlib.Core.List.{List, _∷_, append-nil}
 use native.Mathlib.Omega.{arith}
-use native.Mathlib.Numerals.{add-one}
 use borrow.Author.Tests.{eq-eqb, ne-eqb}
-use lib.ListN.{length, take, set, getD, drop-of-length-le}
-use lib.Seq.{sets, sets-eq, take-suc, length-take-le}
+use lib.ListN.{length, set, drop-of-length-le}
+use lib.Seq.{sets, sets-eq}
 use Rattle.cube_spec.specs.Checks.{first}
 use Rattle.cube_spec.specs.Limits.{axisLimit}
 use Rattle.tape_spec.specs.declared.types.Scan.{Scan}
 use Rattle.tape_spec.specs.Reading.{scanning}
 use Rattle.tape_spec.proofs.Scanning.{slots-of}
-use Rattle.tape_spec.proofs.Filling.{joined}
 use Rattle.tape_spec.proofs.Refusing.{scan-first, scan-passed}
 use Rattle.campaign_slices.specs.Scans.{cells, cellsOf, lentScanRefusal, writtenOr, lentScan}
 
 -- ---- cells
 
--- one cell more
-pub one-more : (s : List ℕ) (at : ℕ) (l : List ℕ) (i : ℕ) → i < length l → set (sets s at (take i l)) (at + i) (getD l i 0) ≡ sets s at (take (i + 1) l)
-one-more s at l i h =
-    rw (add-one i, take-suc l i 0 h, joined s at (take i l) (getD l i 0 ∷ []), length-take-le i l (omega arith))
-
--- all of them
 all-cells : (s : List ℕ) (f : Scan) → length s ≡ cells → length (f .lengths) ≡ axisLimit
     → sets (set (set (set s 0 (f .axes)) 1 (f .p)) 2 (f .points)) 3 (f .lengths) ≡ cellsOf f
 unfolding cellsOf

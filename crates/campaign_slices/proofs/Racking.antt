@@ -3,41 +3,37 @@ use Prim.Native.Nat.{ℕ, zero, suc, _+_, _≤_, _<_}
 use mathlib.Core.Path.{_≡_, refl, sym, ap, _∙_}
 use mathlib.Core.List.{List, [], _∷_, _++_, append-nil}
 use native.Mathlib.Omega.{arith}
-use native.Mathlib.Nat.{zero-add}
 use borrow.Author.Tests.{eq-eqb, ne-eqb, lt-ltb, le-ltb}
 use lib.ListN.{length, take, drop, set, getD, length-drop, length-append, length-set, drop-of-length-le}
 use lib.Seq.{sets, sets-eq, length-sets, take-all, length-take-le, getD-drop, take-append-seam, drop-append-seam}
 use Rattle.cube_spec.specs.Checks.{Check, check, first, gives, refuses, answered}
+use Rattle.cube_spec.proofs.Naturals.{impossible}
+use Rattle.cube_spec.proofs.Dues.{Numbered, first-due, first-passed}
+use Rattle.cube_spec.proofs.Stores.{joined, next}
 use Rattle.plan_spec.specs.declared.types.Plan.{Plan}
 use Rattle.plan_spec.specs.declared.types.Prices.{Prices}
 use Rattle.plan_spec.specs.Plans.{stepCount, listsOf}
 use Rattle.plan_spec.specs.Refusals.{planChecks, lengthChecks, planRefusal}
 use Rattle.plan_spec.specs.Answers.{pricesOf, pricing}
 use Rattle.rack_spec.specs.Steps.{steps}
-use Rattle.cube_spec.proofs.Dues.{Numbered, first-due, first-passed}
 use Rattle.rack_spec.proofs.Refusing.{plan-numbered, plan-due, plan-passed}
 use Rattle.rack_spec.specs.Held as Held
 use Rattle.rack_spec.specs.Finding.{planGrid}
 use Rattle.rack_spec.specs.Answers.{Told, toldAt, pastEnd, heldChecks, heldRefusal, holding, counting}
 use Rattle.campaign_slices.specs.Scans.{writtenOr}
 use Rattle.campaign_slices.specs.Racks.{noPlan, planFrom, bytesOf, lentRefusal, priceRefusal, countRefusal, atChecks, atRefusal, holdRefusal, cellsTold, cellsPriced, priced, counted, steppedAt, held}
-use Rattle.tape_spec.proofs.Filling.{joined}
-use Rattle.campaign_slices.proofs.Laws.{one-more, left-alone}
+use Rattle.campaign_slices.proofs.Laws.{left-alone}
 
 -- ---- copies
 
--- one cell more
-pub next : (s l : List ℕ) (i : ℕ) → i < length l → set (sets s 0 (take i l)) i (getD l i 0) ≡ sets s 0 (take (i + 1) l)
-next s l i h = simp zero-add at (one-more s 0 l i h)
-
--- all of them
+-- all cells of a list
 all : (s l : List ℕ) → length l ≡ length s → sets s 0 l ≡ l
 all s l h = sets-eq l s 0 (omega arith) ∙ rw (drop-of-length-le s {i = 0 + length l} (omega arith), append-nil l)
 
 pub all-taken : (s l : List ℕ) (i : ℕ) → length s ≤ i → length l ≡ length s → sets s 0 (take i l) ≡ l
 all-taken s l i h e = rw (take-all i l (omega arith)) (all s l e)
 
--- the same of a part of a list
+-- one cell more of a part of a list
 pub next-from : (s l : List ℕ) (from i : ℕ) → from + i < length l
     → set (sets s 0 (take i (drop from l))) i (getD l (from + i) 0) ≡ sets s 0 (take (i + 1) (drop from l))
 next-from s l from i h = rw (← getD-drop from l i 0) (next s (drop from l) i (rw (length-drop from l) (omega arith)))
@@ -115,11 +111,11 @@ at-numbered q at = (omega arith, (omega arith, (omega arith, (omega arith, (omeg
 given-is : {A : Type 0} (n : ℕ) (a v : A) → gives v ≡ answered n a → (n ≡ 0) × (v ≡ a)
 unfolding answered
 given-is zero a v e = (refl, cc)
-given-is (suc n) a v e = absurd (let z : _≡_ {A = ℕ} 0 1 = cc in omega arith)
+given-is (suc n) a v e = impossible (cc)
 
 refused-is : {A : Type 0} (n : ℕ) (a : A) (k : ℕ) → refuses k ≡ answered n a → (k ≡ n) × (k ≡ 0 → ⊥)
 unfolding answered
-refused-is zero a k e = absurd (let z : _≡_ {A = ℕ} 0 1 = cc in omega arith)
+refused-is zero a k e = impossible (cc)
 refused-is (suc n) a k e = let q : k ≡ suc n = cc in (q, λ z. omega arith)
 
 -- a slice of the wrong length, and of the right one

@@ -14,3 +14,4 @@ pub mod Slots
 pub mod Masks
 pub mod Axes
 pub mod Dues
+pub mod Stores

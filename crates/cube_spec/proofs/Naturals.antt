@@ -2,7 +2,7 @@
 use Prim.Native.Nat.{ℕ, zero, suc, _+_, _*_, _≤_, _<_}
 use mathlib.Core.Path.{_≡_, sym, _∙_, refl, ap, ap₂}
 use mathlib.Core.Bool.{Bool, true, false, _&&_, not}
-use native.Mathlib.Nat.{zero-add, add-zero, add-suc, add-assoc, zero-mul, mul-zero, suc-mul, mul-add, add-mul, mul-one, add-le-add}
+use native.Mathlib.Nat.{zero-add, add-zero, add-suc, add-assoc, zero-mul, mul-zero, suc-mul, mul-add, add-mul, add-le-add}
 use native.Mathlib.Numerals.{add-one}
 use native.Mathlib.Omega.{arith}
 use borrow.Author.Tests.{eqb-true, eqb-false, ne-eqb}
@@ -12,8 +12,12 @@ use Rattle.cube_spec.proofs.Sums.{by}
 
 -- ---- tests
 
+-- a case that cannot be: `impossible (cc)` where two hypotheses make two constructors equal
+pub impossible : {X : Type 0} → _≡_ {A = ℕ} 0 1 → X
+impossible z = absurd (omega arith)
+
 pub clash : {X : Type 0} → true ≡ false → X
-clash z = absurd (let q : _≡_ {A = ℕ} 0 1 = cc in omega arith)
+clash z = impossible (cc)
 
 pub both : (a b : Bool) → (a && b) ≡ true → (a ≡ true) × (b ≡ true)
 both true b e = (refl, e)

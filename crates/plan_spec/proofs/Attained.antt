@@ -13,7 +13,7 @@ use Rattle.cube_spec.specs.Choices.{keeps, fullMask, lengthOf, cells}
 use Rattle.cube_spec.specs.Tree.{sent}
 use Rattle.cube_spec.specs.Ways.{Way, Division, sumList, costBy, movedBy, addedBy}
 use Rattle.cube_spec.proofs.Sums.{by}
-use Rattle.cube_spec.proofs.Naturals.{sumN-cong}
+use Rattle.cube_spec.proofs.Naturals.{sumN-cong, impossible}
 use Rattle.cube_spec.proofs.Masks.{all-kept, parent-cells}
 use Rattle.cube_spec.proofs.Tables.{table-length, table-of}
 use Rattle.cube_spec.proofs.Axes.{Axis, lens, keys, tree, axis, axes-same, lens-length, lens-table, keys-table, moved-tree, added-tree}
@@ -30,7 +30,7 @@ use Rattle.plan_spec.proofs.Ways.{leastKey, cheapest, cost-below}
 use Rattle.plan_spec.proofs.Ranked.{exponents-fall}
 use Rattle.plan_spec.proofs.Chosen.{planned, planned-lens, planned-keys, planned-length, exponent-of, exponents-table}
 use Rattle.plan_spec.proofs.Least.{sent-zero, planned-fits, planned-sum}
-use Rattle.plan_spec.proofs.Tools.{impossible, bool-cases, add-same}
+use Rattle.plan_spec.proofs.Tools.{bool-cases, add-same}
 
 -- ---- a key for each axis number
 

@@ -16,7 +16,8 @@ use Rattle.cube_spec.specs.Ways.{sumList}
 use Rattle.cube_spec.proofs.Axes.{Axis, lens, keys}
 use Rattle.plan_spec.specs.Rule.{Entry, price, free, least, upTo, raised, raiseAt, raiseBy, raise, greedy, exps}
 use Rattle.plan_spec.proofs.Cost.{Fits}
-use Rattle.plan_spec.proofs.Tools.{impossible, bool-cases}
+use Rattle.cube_spec.proofs.Naturals.{impossible}
+use Rattle.plan_spec.proofs.Tools.{bool-cases}
 
 -- the entries' axes, with the exponents so far
 unfoldable pub axes : List Entry → List Axis

@@ -2,11 +2,6 @@
 use Prim.Native.Nat.{ℕ, _+_}
 use mathlib.Core.Path.{_≡_, ap₂, refl}
 use mathlib.Core.Bool.{Bool, true, false}
-use native.Mathlib.Omega.{arith}
-
--- a case that cannot be: `impossible (cc)` where two hypotheses make two constructors equal
-pub impossible : {A : Type 0} → _≡_ {A = ℕ} 0 1 → A
-impossible z = absurd (omega arith)
 
 -- a test, by its two outcomes
 pub bool-cases : (P : Bool → Type 0) (b : Bool) → (b ≡ true → P true) → (b ≡ false → P false) → P b

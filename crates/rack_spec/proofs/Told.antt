@@ -1,22 +1,18 @@
 -- From what is told of the step at a position back to that step.
-use Prim.Native.Nat.{ℕ, zero, suc, _+_, _≤_, _<_, _^_}
-use mathlib.Core.Path.{_≡_, sym, _∙_, refl, ap}
-use mathlib.Core.Bool.{Bool, true}
+use Prim.Native.Nat.{ℕ, suc, _<_}
+use mathlib.Core.Path.{_≡_, sym, refl}
+use mathlib.Core.Bool.{true}
 use mathlib.Core.Option.{Option, none, some}
-use mathlib.Core.List.{List, [], _∷_}
-use native.Mathlib.Omega.{arith}
-use lib.ListN.{length, getElem?}
+use mathlib.Core.List.{List, _∷_}
+use lib.ListN.{getElem?}
 use Rattle.cube_spec.specs.Tree.{next}
 use Rattle.cube_spec.proofs.Sets.{Down}
+use Rattle.cube_spec.proofs.Naturals.{impossible}
 use Rattle.rack_spec.specs.Grids.{Grid, Lawful, maskOf, summed, boards, withLabel, lead, cells}
 use Rattle.rack_spec.specs.Steps.{TreeStep, expand, transfer, finish, steps}
-use Rattle.rack_spec.specs.Answers.{Told, expands, transfers, finishes, done, refused, telling, tellingOr, toldAt}
+use Rattle.rack_spec.specs.Answers.{expands, transfers, finishes, done, refused, tellingOr, toldAt}
 use Rattle.rack_spec.proofs.Every.{Every, every-get, every-step}
 use Rattle.rack_spec.proofs.Masks.{set-mask}
-
--- different cases of what is told
-clashing : {A : Type 0} → _≡_ {A = ℕ} 0 1 → A
-clashing e = absurd (omega arith)
 
 -- what is known of a transfer of the list
 pub record Known (g : Grid) (Z : List ℕ) (s r n : ℕ) : Type 0 where
@@ -53,22 +49,22 @@ module _ (g : Grid) where
     expand-told t = go (getElem? (steps g) at) refl t
       where
         go : (m : Option TreeStep) → getElem? (steps g) at ≡ m → expands mask ≡ tellingOr g m → (getElem? (steps g) at ≡ some (expand (summed g mask))) × Down (summed g mask) (g .axes)
-        go none e t = clashing (cc)
+        go none e t = impossible (cc)
         go (some (expand Z)) e t =
             let d = every-get Shape (steps g) at (expand Z) shapes e in
             let b = back Z d (cc) in
             rw b (e, d)
-        go (some (transfer Z s r n)) e t = clashing (cc)
-        go (some (finish Z)) e t = clashing (cc)
+        go (some (transfer Z s r n)) e t = impossible (cc)
+        go (some (finish Z)) e t = impossible (cc)
 
     pub finish-told : finishes mask ≡ toldAt g (steps g) at → (getElem? (steps g) at ≡ some (finish (summed g mask))) × Down (summed g mask) (g .axes)
     unfolding toldAt
     finish-told t = go (getElem? (steps g) at) refl t
       where
         go : (m : Option TreeStep) → getElem? (steps g) at ≡ m → finishes mask ≡ tellingOr g m → (getElem? (steps g) at ≡ some (finish (summed g mask))) × Down (summed g mask) (g .axes)
-        go none e t = clashing (cc)
-        go (some (expand Z)) e t = clashing (cc)
-        go (some (transfer Z s r n)) e t = clashing (cc)
+        go none e t = impossible (cc)
+        go (some (expand Z)) e t = impossible (cc)
+        go (some (transfer Z s r n)) e t = impossible (cc)
         go (some (finish Z)) e t =
             let d = every-get Shape (steps g) at (finish Z) shapes e in
             let b = back Z d (cc) in
@@ -79,8 +75,8 @@ module _ (g : Grid) where
     transfer-told s r n t = go (getElem? (steps g) at) refl t
       where
         go : (m : Option TreeStep) → getElem? (steps g) at ≡ m → transfers s r mask n ≡ tellingOr g m → (getElem? (steps g) at ≡ some (transfer (summed g mask) s r n)) × Known g (summed g mask) s r n
-        go none e t = clashing (cc)
-        go (some (expand Z)) e t = clashing (cc)
+        go none e t = impossible (cc)
+        go (some (expand Z)) e t = impossible (cc)
         go (some (transfer Z s′ r′ n′)) e t =
             let k = every-get Shape (steps g) at (transfer Z s′ r′ n′) shapes e in
             let es : s ≡ s′ = cc in
@@ -89,7 +85,7 @@ module _ (g : Grid) where
             let em : mask ≡ maskOf g Z = cc in
             let b = back Z (rw (k .set) (k .down)) (sym em) in
             rw (b, es, er, en) (e, k)
-        go (some (finish Z)) e t = clashing (cc)
+        go (some (finish Z)) e t = impossible (cc)
 
     pub done-told : done ≡ toldAt g (steps g) at → getElem? (steps g) at ≡ none
     unfolding toldAt
@@ -97,19 +93,19 @@ module _ (g : Grid) where
       where
         go : (m : Option TreeStep) → getElem? (steps g) at ≡ m → done ≡ tellingOr g m → getElem? (steps g) at ≡ none
         go none e t = e
-        go (some (expand Z)) e t = clashing (cc)
-        go (some (transfer Z s r n)) e t = clashing (cc)
-        go (some (finish Z)) e t = clashing (cc)
+        go (some (expand Z)) e t = impossible (cc)
+        go (some (transfer Z s r n)) e t = impossible (cc)
+        go (some (finish Z)) e t = impossible (cc)
 
     pub never-refused : (n : ℕ) → refused n ≡ toldAt g (steps g) at → ⊥
     unfolding toldAt
     never-refused n t = go (getElem? (steps g) at) t
       where
         go : (m : Option TreeStep) → refused n ≡ tellingOr g m → ⊥
-        go none t = clashing (cc)
-        go (some (expand Z)) t = clashing (cc)
-        go (some (transfer Z s r k)) t = clashing (cc)
-        go (some (finish Z)) t = clashing (cc)
+        go none t = impossible (cc)
+        go (some (expand Z)) t = impossible (cc)
+        go (some (transfer Z s r k)) t = impossible (cc)
+        go (some (finish Z)) t = impossible (cc)
 
 -- a transfer of the list
 pub known-step : (g : Grid) (at : ℕ) (Z : List ℕ) (s r n : ℕ) → getElem? (steps g) at ≡ some (transfer Z s r n) → Known g Z s r n

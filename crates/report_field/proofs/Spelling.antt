@@ -1,5 +1,5 @@
 -- Laws of decimal numbers and of bytes put one after the other.
-use Prim.Native.Nat.{ℕ, zero, suc, _+_, _*_, _/_, _%_, _^_, _≤_, _<_}
+use Prim.Native.Nat.{ℕ, zero, suc, _+_, _/_, _%_, _^_, _≤_, _<_}
 use mathlib.Core.Path.{_≡_, sym, _∙_, refl, ap}
 use mathlib.Core.Bool.{true, false}
 use mathlib.Core.List.{List, [], _∷_, _++_, append-nil, append-assoc}
@@ -10,11 +10,12 @@ use lib.Dec.{ltb}
 use lib.ListN.{length, set, getD, take}
 use lib.IntN.{ℤ, pos, negsuc, natAbs}
 use lib.Signed.{mag, ltZ}
-use lib.Seq.{sets}
+use lib.Seq.{sets, take-all}
 use mir.Val.{SFits}
 use mir.Syntax.{w64}
-use Rattle.cube_spec.specs.Boxes.{pick}
 use Rattle.cube_spec.proofs.Sums.{by}
+use Rattle.cube_spec.proofs.Naturals.{impossible}
+use Rattle.cube_spec.proofs.Stores.{joined}
 use Rattle.report_spec.specs.Text.{text, digits, decimal, signed}
 use Rattle.report_spec.specs.Printed.{fields, numbers, signeds}
 use Rattle.report_field.specs.Spread.{spread}
@@ -65,37 +66,12 @@ signed-short (negsuc n) f = let i = decimal-short 18 (suc n) (let b = f .sfits i
 
 -- ---- bytes put one after the other
 
-pub sets-join : {A : Type 0} (l : List A) (i : ℕ) (vs ws : List A) → sets l i (vs ++ ws) ≡ sets (sets l i vs) (i + length vs) ws
-sets-join l i [] ws = ap (λ k. sets l k ws) (sym (add-zero i))
-sets-join l i (a ∷ vs) ws = sets-join (set l i a) (suc i) vs ws ∙ ap (λ k. sets (sets (set l i a) (suc i) vs) k ws) (let e : suc i + length vs ≡ i + suc (length vs) = omega arith in e)
-
 -- one byte more
 pub sets-last : (l : List ℕ) (i : ℕ) (vs : List ℕ) (j b : ℕ) → j ≡ i + length vs → set (sets l i vs) j b ≡ sets l i (vs ++ b ∷ [])
-sets-last l i vs j b e = rw e (sym (sets-join l i vs (b ∷ [])))
-
-take-more : (l : List ℕ) (i : ℕ) → i < length l → take (i + 1) l ≡ take i l ++ getD l i 0 ∷ []
-take-more [] i h = absurd (omega arith)
-take-more (a ∷ l) zero h = refl
-take-more (a ∷ l) (suc i) h = let e : suc i + 1 ≡ suc (i + 1) = omega arith in rw e (ap (λ r. a ∷ r) (take-more l i (omega arith)))
-
-take-length : (l : List ℕ) (i : ℕ) → i ≤ length l → length (take i l) ≡ i
-take-length l zero h = refl
-take-length [] (suc i) h = absurd (omega arith)
-take-length (a ∷ l) (suc i) h = ap suc (take-length l i (omega arith))
-
-take-whole : (l : List ℕ) (i : ℕ) → i ≡ length l → take i l ≡ l
-take-whole [] zero e = refl
-take-whole [] (suc i) e = refl
-take-whole (a ∷ l) zero e = absurd (omega arith)
-take-whole (a ∷ l) (suc i) e = ap (λ r. a ∷ r) (take-whole l i (omega arith))
-
--- a word byte by byte
-pub word-more : (out word : List ℕ) (i : ℕ) → i < length word → set (sets out 0 (take i word)) i (getD word i 0) ≡ sets out 0 (take (i + 1) word)
-word-more out word i h =
-    sets-last out 0 (take i word) i (getD word i 0) (let e = take-length word i (omega arith) in omega arith) ∙ ap (sets out 0) (sym (take-more word i h))
+sets-last l i vs j b e = rw e (sym (joined l i vs (b ∷ [])))
 
 pub word-whole : (out word : List ℕ) (i : ℕ) → i ≡ length word → sets out 0 (take i word) ≡ sets out 0 word
-word-whole out word i e = ap (sets out 0) (take-whole word i e)
+word-whole out word i e = ap (sets out 0) (take-all i word (omega arith))
 
 -- a byte and what follows it
 pub sets-first : (out : List ℕ) (at b next : ℕ) (l : List ℕ) → next ≡ at + 1 → sets (set out at b) next l ≡ sets out at (b ∷ l)
@@ -111,7 +87,7 @@ signed-neg (negsuc n) t = let e : suc n ≡ n + 1 = omega arith in rw e refl
 pub signed-pos : (z : ℤ) → ltZ z (pos 0) ≡ false → signed z ≡ decimal (natAbs z)
 unfolding signed
 signed-pos (pos n) t = refl
-signed-pos (negsuc n) t = absurd (let e : _≡_ {A = ℕ} 0 1 = cc in omega arith)
+signed-pos (negsuc n) t = impossible (cc)
 
 -- ---- fields, each after a space
 
@@ -124,12 +100,6 @@ spread-more (z ∷ l) (suc i) h =
     let e : suc i + 1 ≡ suc (i + 1) = omega arith in
     rw e (ap (λ r. 32 ∷ (signed z ++ r)) (spread-more l i (omega arith)) ∙ ap (λ r. 32 ∷ r) (sym (append-assoc (signed z) (spread (signeds (take i l))) (text " " ++ signed (getD l i (pos 0))))))
 
-cells-whole : (l : List ℤ) (i : ℕ) → i ≡ length l → take i l ≡ l
-cells-whole [] zero e = refl
-cells-whole [] (suc i) e = refl
-cells-whole (a ∷ l) zero e = absurd (omega arith)
-cells-whole (a ∷ l) (suc i) e = ap (λ r. a ∷ r) (cells-whole l i (omega arith))
-
 -- one field more of the bytes
 pub field-more : (out : List ℕ) (at next : ℕ) (l : List ℤ) (i : ℕ) → i < length l → next ≡ at + length (spread (signeds (take i l)))
     → (sets (sets out at (spread (signeds (take i l)))) next (text " " ++ signed (getD l i (pos 0))) ≡ sets out at (spread (signeds (take (i + 1) l))))
@@ -137,12 +107,12 @@ pub field-more : (out : List ℕ) (at next : ℕ) (l : List ℤ) (i : ℕ) → i
 unfolding text
 field-more out at next l i h e =
     let m = spread-more l i h in (
-      rw (e, m) (sym (sets-join out at (spread (signeds (take i l))) (text " " ++ signed (getD l i (pos 0))))),
+      rw (e, m) (sym (joined out at (spread (signeds (take i l))) (text " " ++ signed (getD l i (pos 0))))),
       omega (arith, ap length m, length-join (spread (signeds (take i l))) (text " " ++ signed (getD l i (pos 0)))),
     )
 
 pub fields-whole : (l : List ℤ) (i : ℕ) → i ≡ length l → spread (signeds (take i l)) ≡ spread (signeds l)
-fields-whole l i e = ap (λ x. spread (signeds x)) (cells-whole l i e)
+fields-whole l i e = ap (λ x. spread (signeds x)) (take-all i l (omega arith))
 
 -- a space before it
 pub space : (out : List ℕ) (at : ℕ) (l : List ℕ) → sets out at (32 ∷ l) ≡ sets out at (text " " ++ l)
@@ -169,12 +139,12 @@ pub number-more : (out : List ℕ) (at next : ℕ) (l : List ℕ) (i : ℕ) → 
 unfolding text
 number-more out at next l i h e =
     let m = numbers-more l i h in (
-      rw (e, m) (sym (sets-join out at (spread (numbers (take i l))) (text " " ++ decimal (getD l i 0)))),
+      rw (e, m) (sym (joined out at (spread (numbers (take i l))) (text " " ++ decimal (getD l i 0)))),
       omega (arith, ap length m, length-join (spread (numbers (take i l))) (text " " ++ decimal (getD l i 0))),
     )
 
 pub numbers-whole : (l : List ℕ) (i : ℕ) → i ≡ length l → spread (numbers (take i l)) ≡ spread (numbers l)
-numbers-whole l i e = ap (λ x. spread (numbers x)) (take-whole l i e)
+numbers-whole l i e = ap (λ x. spread (numbers x)) (take-all i l (omega arith))
 
 pub no-number : (out : List ℕ) (at : ℕ) (l : List ℕ) → (at ≡ at + length (spread (numbers (take 0 l)))) × (out ≡ sets out at (spread (numbers (take 0 l))))
 unfolding spread numbers
@@ -193,7 +163,7 @@ pub line-put : (out word : List ℕ) (l : List (List ℕ)) (first end : ℕ) →
     → (set (sets (sets out 0 word) first (spread l)) end 10 ≡ sets out 0 (word ++ fields l)) × (end + 1 ≡ length (word ++ fields l))
 line-put out word l first end e f =
     let a : word ++ fields l ≡ (word ++ spread l) ++ 10 ∷ [] = ap (λ x. word ++ x) (fields-end l) ∙ sym (append-assoc word (spread l) (10 ∷ [])) in
-    let b : sets (sets out 0 word) first (spread l) ≡ sets out 0 (word ++ spread l) = ap (λ k. sets (sets out 0 word) k (spread l)) (e ∙ sym (let z : 0 + length word ≡ length word = omega arith in z)) ∙ sym (sets-join out 0 word (spread l)) in
+    let b : sets (sets out 0 word) first (spread l) ≡ sets out 0 (word ++ spread l) = ap (λ k. sets (sets out 0 word) k (spread l)) (e ∙ sym (let z : 0 + length word ≡ length word = omega arith in z)) ∙ sym (joined out 0 word (spread l)) in
     let n = length-join word (spread l) in
     (rw b (sets-last out 0 (word ++ spread l) end 10 (omega arith)) ∙ ap (sets out 0) (sym a), omega (arith, ap length a, length-join (word ++ spread l) (10 ∷ [])))
 
@@ -202,7 +172,7 @@ pub spread-first : (f : List ℕ) (r : List (List ℕ)) (out : List ℕ) (at nex
     → (sets (sets out at (text " " ++ f)) next (spread r) ≡ sets out at (spread (f ∷ r))) × (next + length (spread r) ≡ at + length (spread (f ∷ r)))
 unfolding spread text
 spread-first f r out at next e =
-    (ap (λ k. sets (sets out at (text " " ++ f)) k (spread r)) (e ∙ (let z : at + 1 + length f ≡ at + suc (length f) = omega arith in z)) ∙ sym (sets-join out at (32 ∷ f) (spread r)), omega (arith, length-join f (spread r)))
+    (ap (λ k. sets (sets out at (text " " ++ f)) k (spread r)) (e ∙ (let z : at + 1 + length f ≡ at + suc (length f) = omega arith in z)) ∙ sym (joined out at (32 ∷ f) (spread r)), omega (arith, length-join f (spread r)))
 
 pub group-word : text "group" ≡ 103 ∷ 114 ∷ 111 ∷ 117 ∷ 112 ∷ []
 unfolding text

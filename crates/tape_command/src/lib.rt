@@ -15,10 +15,11 @@ fn axis(tape: &[u8], at: usize) -> Command
     requires { ⌜ (at < length (now tape)) × (getD (now tape) at 0 ≡ 0x41) ⌝ }
     ensures { λ r. ⌜ (meant r ≡ decoding (now (tape .entry)) at) × few r ⌝ }
 {
-    if tape.len() - at < 3 {
+    let next = at + 3;
+    if tape.len() < next {
         return Command::Bad;
     }
-    Command::Axis(pair(tape, at + 1), at + 3)
+    Command::Axis(pair(tape, at + 1), next)
 }
 
 // 42 at a position.
@@ -26,10 +27,11 @@ fn boards(tape: &[u8], at: usize) -> Command
     requires { ⌜ (at < length (now tape)) × (getD (now tape) at 0 ≡ 0x42) ⌝ }
     ensures { λ r. ⌜ (meant r ≡ decoding (now (tape .entry)) at) × few r ⌝ }
 {
-    if tape.len() - at < 2 {
+    let next = at + 2;
+    if tape.len() < next {
         return Command::Bad;
     }
-    Command::Boards(tape[at + 1], at + 2)
+    Command::Boards(tape[at + 1], next)
 }
 
 // 4B and 4D at a position.

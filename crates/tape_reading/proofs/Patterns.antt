@@ -1,4 +1,4 @@
--- A float against its bits, and a refusal against its answer.
+-- A float against its bits.
 use Prim.Native.Nat.{ℕ, _%_, _≤_, _<_}
 use mathlib.Core.Path.{_≡_, refl, sym, ap, _∙_}
 use mathlib.Core.Bool.{true, false, not}
@@ -7,20 +7,10 @@ use lib.Dec.{T}
 use lib.Ieee.{Float, nan, inf, fin, binary32, ofBits, toBits, nanBits, isNan, ne, fits}
 use lib.Ieee.Bits.{nanBits-is, nanBits-above, ofBits-toBits}
 use lib.Ieee.Compare.{nan-differs, differs-from-itself}
-use lib.IntN.{ℤ}
-use Rattle.cube_spec.specs.Checks.{Reply, gives, refuses}
+use Rattle.cube_spec.specs.Checks.{refuses}
 use Rattle.cube_spec.proofs.Naturals.{clash}
-use Rattle.tape_reading.specs.Readings.{inCentimetres, refusalIn, fromBits}
+use Rattle.tape_reading.specs.Readings.{inCentimetres, fromBits}
 use Rattle.tape_reading.proofs.Readings.{from-bits}
-
--- ---- the answers
-
--- a refusal that is not 0 is the answer
-pub refused-is : (n : ℕ) (r : Reply ℤ) → n ≡ refusalIn r → (n ≡ 0 → ⊥) → refuses n ≡ r
-refused-is n (gives v) e h = absurd (h e)
-refused-is n (refuses m) e h = ap refuses e
-
--- ---- a float and its bits
 
 is-nan : (x : Float) → isNan x ≡ true → x ≡ nan
 unfolding isNan

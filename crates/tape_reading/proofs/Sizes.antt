@@ -139,16 +139,3 @@ module _ (b : ℕ) where
         let l = ltb-true (b % 2 ^ 31) 0x7F800000 u in
         ap valueIn (sym (finite scale l ∙ out-of-range (negative b) (nearest (parts (b % 2 ^ 31) * scale) (2 ^ 149)) (t .far (b % 2 ^ 31) h l))))
         (λ u. ap valueIn (sym (not-finite scale (ltb-false (b % 2 ^ 31) 0x7F800000 u))))
-
-    -- what is not refused is given
-    pub not-refused : (scale : ℕ) → Taken scale last → refusalIn (fromBits scale b) ≡ 0 → gives (valueIn (fromBits scale b)) ≡ fromBits scale b
-    not-refused scale t e =
-        by (ltb last (b % 2 ^ 31))
-        (λ u.
-        let h = ltb-true last (b % 2 ^ 31) u in
-        by (ltb (b % 2 ^ 31) 0x7F800000)
-        (λ v. let z = far-refused h (ltb-true (b % 2 ^ 31) 0x7F800000 v) scale t in absurd (omega arith))
-        (λ v. let z = no-number-refused (ltb-false (b % 2 ^ 31) 0x7F800000 v) scale t in absurd (omega arith)))
-        (λ u.
-        let i = inside scale last (nearest (parts (b % 2 ^ 31) * scale) (2 ^ 149)) t (ltb-false last (b % 2 ^ 31) u) refl in
-        ap (λ r. gives (valueIn r)) (sym i) ∙ i)

@@ -9,8 +9,6 @@ use Rattle.cube_spec.specs.Boxes.{pick}
 use Rattle.cube_spec.specs.Checks.{Reply, gives, refuses}
 use Rattle.tape_reading.specs.declared.types.Reading.{Reading}
 use Rattle.tape_reading.specs.declared.types.Reading.the-variants as Reading′
-use Rattle.tape_reading.specs.declared.types.Answer.{Answer}
-use Rattle.tape_reading.specs.declared.types.Answer.the-variants as Answer′
 use Rattle.tape_reading.specs.Nearest.{nearest, signed, magnitude}
 use Rattle.tape_reading.specs.Patterns.{negative, notFinite, parts}
 
@@ -40,11 +38,6 @@ unfoldable pub centimetresOf : Reading → Reply ℤ
 centimetresOf (Reading′.Centimetres v) = gives v
 centimetresOf (Reading′.Metres x) = inCentimetres metre x
 centimetresOf (Reading′.Kilometres x) = inCentimetres kilometre x
-
--- the answer's cases
-abbrev pub answerReply : Answer → Reply ℤ
-answerReply (Answer′.Whole v) = gives v
-answerReply (Answer′.Refused n) = refuses n
 
 -- the refusal, 0 for none; and the point. A reading that is refused has no point: 0 stands for it here, and no one reads it, since its tape is refused.
 abbrev pub refusalIn : Reply ℤ → ℕ

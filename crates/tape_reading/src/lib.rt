@@ -4,9 +4,8 @@ ghost use Prim.Native.Nat.{_*_, _^_, _<_, _≤_};
 ghost use lib.Ieee.{binary32, ofBits};
 ghost use Rattle.tape_reading.specs.Nearest as Nearest;
 ghost use Rattle.tape_reading.specs.Patterns.{parts};
-ghost use Rattle.tape_reading.specs.Readings.{signed32, readingOf, inCentimetres, centimetresOf, answerReply, refusalIn, valueIn, fromBits};
+ghost use Rattle.tape_reading.specs.Readings.{signed32, readingOf, inCentimetres, centimetresOf, refusalIn, valueIn, fromBits};
 ghost use Rattle.tape_reading.specs.inner.Taken.{Taken, Refuses};
-use types::Answer;
 use types::Reading;
 
 pub mod types;
@@ -156,41 +155,5 @@ pub fn point_of(reading: Reading) -> i32
         Reading::Centimetres(v) => v,
         Reading::Metres(x) => float_point(x, METRE, LAST_METRES),
         Reading::Kilometres(x) => float_point(x, KILOMETRE, LAST_KILOMETRES),
-    }
-}
-
-// ---- a reading as a whole
-
-// Whole centimetres from the bits of a float, or the refusal.
-fn from_bits(n: u32, scale: u64, last: u32) -> Answer
-    requires { ⌜ Taken scale last ⌝ }
-    ensures { λ r. ⌜ answerReply r ≡ fromBits scale n ⌝ }
-{
-    let refusal = judged(n, last);
-    if refusal != 0 {
-        return Answer::Refused(refusal);
-    }
-    Answer::Whole(bits_point(n, scale, last))
-}
-
-// Whole centimetres from a float, or the refusal.
-fn from_float(x: f32, scale: u64, last: u32) -> Answer
-    requires { ⌜ Taken scale last ⌝ }
-    ensures { λ r. ⌜ answerReply r ≡ inCentimetres scale x ⌝ }
-{
-    if x != x {
-        return Answer::Refused(14);
-    }
-    from_bits(f32::to_bits(x), scale, last)
-}
-
-// The point that a reading gives, or its refusal.
-pub fn centimetres(reading: Reading) -> Answer
-    ensures { λ r. ⌜ answerReply r ≡ centimetresOf reading ⌝ }
-{
-    match reading {
-        Reading::Centimetres(v) => Answer::Whole(v),
-        Reading::Metres(x) => from_float(x, METRE, LAST_METRES),
-        Reading::Kilometres(x) => from_float(x, KILOMETRE, LAST_KILOMETRES),
     }
 }

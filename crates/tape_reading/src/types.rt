@@ -4,9 +4,3 @@ pub enum Reading {
     Metres(f32),
     Kilometres(f32),
 }
-
-// What a reading gives: whole centimetres, or the refusal.
-pub enum Answer {
-    Whole(i32),
-    Refused(u8),
-}

@@ -1,7 +1,6 @@
 -- Laws of decoding: the command at a position is the next of the tape's commands, and the command that a byte begins.
 use Prim.Native.Nat.{ℕ, zero, suc, _+_, _-_, _%_, _≤_, _<_}
 use mathlib.Core.Path.{_≡_, refl, sym, ap, _∙_}
-use mathlib.Core.Logic.{_⊎_, inl, inr}
 use mathlib.Core.Bool.{true, false}
 use mathlib.Core.Option.{Option, none, some}
 use mathlib.Core.List.{List, [], _∷_}
@@ -13,16 +12,13 @@ use lib.ListN.{length, getD, drop, take, length-drop, drop-of-length-le}
 use lib.Seq.{drop-cons, drop-drop}
 use Rattle.cube_spec.specs.Bytes.{little}
 use Rattle.cube_spec.proofs.Sums.{by}
-use Rattle.cube_spec.proofs.Naturals.{clash}
+use Rattle.cube_spec.proofs.Naturals.{clash, impossible}
 use Rattle.tape_reading.specs.Readings.{readingOf}
 use Rattle.tape_spec.specs.Tapes as Tapes
 use Rattle.tape_spec.specs.Tapes.{axis, boards, points, end, First, found, bad, operand, single, repeated, firstOf, prepend, firstThen, commands}
 use Rattle.tape_spec.specs.Decoding.{placed, nothing, told, decoding}
 use Rattle.tape_spec.proofs.Operands.{one}
 use Rattle.tape_spec.proofs.Commands.{Suffix, Follows, past, no-rest, follows, commands-none, commands-next}
-
-pub impossible : {A : Type 0} → _≡_ {A = ℕ} 0 1 → A
-impossible e = absurd (omega arith)
 
 -- ---- what decoding says of the tape's commands
 
@@ -141,33 +137,34 @@ module _ (l : List ℕ) (at : ℕ) (h : at < length l) where
 
   -- ---- the answers of decoding, command by command
 
+  -- a command of one operand, cut short and whole
+  module _ (n : ℕ) (c : ℕ → Tapes.Command) (o : firstOf (drop at l) ≡ operand n (drop (at + 1) l) (λ x s. found (c x) s)) where
+    command-cut : length l - at < n + 1 → nothing ≡ decoding l at
+    unfolding decoding told
+    command-cut q = rw (o, cut l n (at + 1) (λ x s. found (c x) s) (omega arith) (omega arith))
+
+    command-told : (k : ℕ) → k ≡ n + 1 → k ≤ length l - at → placed (c (little (take n (drop (at + 1) l)))) (at + k) ≡ decoding l at
+    unfolding decoding told
+    command-told k e q = rw (o, whole l n (at + 1) (λ x s. found (c x) s) (omega arith), back l (at + 1 + n) (at + k) (omega arith) (omega arith))
+
   pub axis-cut : getD l at 0 ≡ 0x41 → length l - at < 3 → nothing ≡ decoding l at
-  unfolding decoding told
-  axis-cut e q = rw (at-41 e, cut l 2 (at + 1) (λ d s. found (axis d) s) (omega arith) (omega arith))
+  axis-cut e q = command-cut 2 axis (at-41 e) q
 
   pub axis-told : getD l at 0 ≡ 0x41 → 3 ≤ length l - at → placed (axis (little (take 2 (drop (at + 1) l)))) (at + 3) ≡ decoding l at
-  unfolding decoding told
-  axis-told e q = rw (at-41 e, whole l 2 (at + 1) (λ d s. found (axis d) s) (omega arith), back l (at + 1 + 2) (at + 3) (omega arith) (omega arith))
+  axis-told e q = command-told 2 axis (at-41 e) 3 refl q
 
   pub boards-cut : getD l at 0 ≡ 0x42 → length l - at < 2 → nothing ≡ decoding l at
-  unfolding decoding told
-  boards-cut e q = rw (at-42 e, cut l 1 (at + 1) (λ p s. found (boards p) s) (omega arith) (omega arith))
+  boards-cut e q = command-cut 1 boards (at-42 e) q
 
   pub boards-told : getD l at 0 ≡ 0x42 → 2 ≤ length l - at → placed (boards (getD l (at + 1) 0)) (at + 2) ≡ decoding l at
-  unfolding decoding told
-  boards-told e q = rw (← one l (at + 1) (omega arith), at-42 e, whole l 1 (at + 1) (λ p s. found (boards p) s) (omega arith), back l (at + 1 + 1) (at + 2) (omega arith) (omega arith))
+  boards-told e q = rw (← one l (at + 1) (omega arith)) (command-told 1 boards (at-42 e) 2 refl q)
 
   module _ (c : ℕ) (e : getD l at 0 ≡ c) (t : single c ≡ true) where
-    abbrev k : ℕ → List ℕ → First
-    k b s = found (points 1 (readingOf c b)) s
-
     pub single-cut : length l - at < 5 → nothing ≡ decoding l at
-    unfolding decoding told
-    single-cut q = rw (at-single c e t, cut l 4 (at + 1) k (omega arith) (omega arith))
+    single-cut q = command-cut 4 (λ b. points 1 (readingOf c b)) (at-single c e t) q
 
     pub single-told : 5 ≤ length l - at → placed (points 1 (readingOf c (little (take 4 (drop (at + 1) l))))) (at + 5) ≡ decoding l at
-    unfolding decoding told
-    single-told q = rw (at-single c e t, whole l 4 (at + 1) k (omega arith), back l (at + 1 + 4) (at + 5) (omega arith) (omega arith))
+    single-told q = command-told 4 (λ b. points 1 (readingOf c b)) (at-single c e t) 5 refl q
 
   module _ (e : getD l at 0 ≡ 0x52) where
     abbrev reads : ℕ → List ℕ → First
@@ -207,36 +204,18 @@ pub past-told : (l : List ℕ) (at : ℕ) → length l ≤ at → nothing ≡ de
 unfolding decoding told firstOf
 past-told l at h = rw (drop-of-length-le l h)
 
--- a 56 and a float are single readings; a byte that is neither
-is-float : (c : ℕ) → (c ≡ 0x4B) ⊎ (c ≡ 0x4D) → single c ≡ true
-unfolding single
-is-float c (inl e) = rw e
-is-float c (inr e) = rw e
-
+-- the bytes that begin a single reading: 56, and the odd ones from 4B to 4D
 pub is-56 : (c : ℕ) → c ≡ 0x56 → single c ≡ true
 unfolding single
 is-56 c e = rw e
 
-pub not-single : (c : ℕ) → (c ≡ 0x56 → ⊥) → ((c ≡ 0x4B) ⊎ (c ≡ 0x4D) → ⊥) → single c ≡ false
-unfolding single
-not-single c h k = rw (ne-eqb c 0x56 h, ne-eqb c 0x4D (λ e. k (inr e)), ne-eqb c 0x4B (λ e. k (inl e)))
-
--- bytes that are no float's: past 4D, below 4B, and even ones
-pub past-float : (c : ℕ) → 0x4D < c → (c ≡ 0x4B) ⊎ (c ≡ 0x4D) → ⊥
-past-float c h (inl e) = omega arith
-past-float c h (inr e) = omega arith
-
-pub before-float : (c : ℕ) → c < 0x4B → (c ≡ 0x4B) ⊎ (c ≡ 0x4D) → ⊥
-before-float c h (inl e) = omega arith
-before-float c h (inr e) = omega arith
-
-pub even-float : (c : ℕ) → c % 2 ≡ 0 → (c ≡ 0x4B) ⊎ (c ≡ 0x4D) → ⊥
-even-float c h (inl e) = omega arith
-even-float c h (inr e) = omega arith
-
--- an odd byte from 4B to 4D
 pub odd-float : (c : ℕ) → 0x4B ≤ c → c ≤ 0x4D → (c % 2 ≡ 0 → ⊥) → single c ≡ true
-odd-float c a b h = by (eqb c 0x4B) (λ t. is-float c (inl (eqb-true c 0x4B t))) (λ t. is-float c (inr (go t)))
+unfolding single
+odd-float c a b h = by (eqb c 0x4B) (λ t. rw (eqb-true c 0x4B t)) (λ t. rw (go t))
   where
     go : eqb c 0x4B ≡ false → c ≡ 0x4D
     go t = let n = eqb-false c 0x4B t in by (eqb c 0x4C) (λ u. absurd (h (rw (eqb-true c 0x4C u)))) (λ u. let m = eqb-false c 0x4C u in omega (arith, n, m))
+
+pub not-single : (c : ℕ) → (c ≡ 0x56 → ⊥) → (c ≡ 0x4D → ⊥) → (c ≡ 0x4B → ⊥) → single c ≡ false
+unfolding single
+not-single c x y z = rw (ne-eqb c 0x56 x, ne-eqb c 0x4D y, ne-eqb c 0x4B z)

@@ -7,13 +7,14 @@ use mathlib.Core.Option.{Option, none, some}
 use mathlib.Core.List.{List, [], _∷_, _++_}
 use native.Mathlib.Omega.{arith}
 use native.Mathlib.Numerals.{add-one}
-use native.Mathlib.Nat.{zero-add, add-zero}
+use native.Mathlib.Nat.{zero-add}
 use lib.ListN.{length, drop, set, replicate, length-append, length-replicate}
 use lib.Seq.{sets, sets-eq, length-sets}
 use lib.IntN.{ℤ}
 use types.Run.{OneOf}
 use denote.Enum.Declared.{tagOf}
-use Rattle.cube_spec.proofs.Naturals.{clash}
+use Rattle.cube_spec.proofs.Naturals.{clash, impossible}
+use Rattle.cube_spec.proofs.Stores.{joined}
 use Rattle.tape_reading.specs.declared.types.Reading.{Reading}
 use Rattle.tape_reading.specs.Readings.{centimetresOf, valueIn}
 use Rattle.tape_spec.specs.declared.types.Command.the-variants.{Axis, Boards, Points, Float, End, Bad}
@@ -22,14 +23,9 @@ use Rattle.tape_spec.specs.Tapes.{Command, axis, boards, points, end, pr
 use Rattle.tape_spec.specs.Reading.{isNone, orEmpty, entriesIn, filledOr}
 use Rattle.tape_spec.specs.Decoding.{placed, meant, decoding}
 use Rattle.tape_spec.proofs.types.Command as told
-use Rattle.tape_spec.proofs.Decoding.{impossible, tells, bad-left}
+use Rattle.tape_spec.proofs.Decoding.{tells, bad-left}
 
 -- ---- stores
-
--- two runs of stores, one after the other
-pub joined : {A : Type 0} (s : List A) (i : ℕ) (a b : List A) → sets s i (a ++ b) ≡ sets (sets s i a) (i + length a) b
-joined s i [] b = rw add-zero
-joined s i (x ∷ a) b = let q : i + suc (length a) ≡ suc i + length a = omega arith in rw q (joined (set s i x) (suc i) a b)
 
 replicate-more : (n : ℕ) (v : ℤ) → replicate (n + 1) v ≡ replicate n v ++ (v ∷ [])
 replicate-more n v = rw add-one (go n)

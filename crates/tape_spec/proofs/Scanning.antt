@@ -19,6 +19,7 @@ use Rattle.cube_spec.specs.Checks.{first}
 use Rattle.cube_spec.specs.Limits.{tapeLimit, axisLimit, padded}
 use Rattle.cube_spec.proofs.Sums.{by}
 use Rattle.cube_spec.proofs.Slots.{padded-length}
+use Rattle.cube_spec.proofs.Naturals.{impossible}
 use Rattle.tape_reading.specs.declared.types.Reading.{Reading}
 use Rattle.tape_reading.specs.declared.types.Reading.the-variants as Reading′
 use Rattle.tape_reading.specs.Readings.{readingOf, centimetresOf, refusalIn, valueIn}
@@ -33,7 +34,7 @@ use Rattle.tape_spec.specs.Reading.{tooLong, isNone, orEmpty, entriesIn,
 use Rattle.tape_spec.specs.Decoding.{placed, meant, decoding, countedAs, counted}
 use Rattle.tape_spec.proofs.types.Command as told
 use Rattle.tape_spec.proofs.Commands.{commands-none}
-use Rattle.tape_spec.proofs.Decoding.{impossible, tells, some-left, bad-left}
+use Rattle.tape_spec.proofs.Decoding.{tells, some-left, bad-left}
 
 -- ---- counting
 

@@ -13,12 +13,10 @@ use Rattle.cube_spec.proofs.Sums.{by}
 use Rattle.report_spec.specs.Printed.{printedLines, lineAt, joined, printed}
 use Rattle.report_spec.proofs.Beginnings.{lines-begun}
 use Rattle.totals_line.proofs.Lined.{line-some}
+use Rattle.cube_spec.proofs.Naturals.{impossible}
 use Rattle.totals.specs.declared.types.Written.{Written}
 use Rattle.totals.specs.Endings.{Ends, ReadFrom}
 use Rattle.totals.proofs.Handed.{line-filled}
-
-never : {A : Type 0} → _≡_ {A = ℕ} 0 1 → A
-never e = absurd (omega arith)
 
 -- a line of no bytes comes after the last one
 none-left : (tape : List ℕ) (k n : ℕ) → n ≡ length (lineAt tape k) → n ≡ 0 → length (printedLines tape) ≤ k
@@ -30,13 +28,13 @@ none-left tape k n e z = by (ltb k (length (printedLines tape)))
 pub ends-whole : (tape : List ℕ) (k n : ℕ) → k ≤ length (printedLines tape) → n ≡ length (lineAt tape k) → n ≡ 0 → Ends tape (record { lines = k; whole = true })
 ends-whole tape k n h e z =
     let m = none-left tape k n e z in
-    record { most = h; all = λ t. omega arith; cut = λ t. never (cc) }
+    record { most = h; all = λ t. omega arith; cut = λ t. impossible (cc) }
 
 -- the line that was not taken is left
 pub ends-cut : (tape : List ℕ) (k n : ℕ) → n ≡ length (lineAt tape k) → (n ≡ 0 → ⊥) → Ends tape (record { lines = k; whole = false })
 ends-cut tape k n e h =
     let l = line-some tape k n e h in
-    record { most = omega arith; all = λ t. never (cc); cut = λ t. l }
+    record { most = omega arith; all = λ t. impossible (cc); cut = λ t. l }
 
 -- THE INPUT IN PLACE OF WHAT WAS READ OF IT: where there is room for more bytes than a tape may have, the report is that of the whole input.
 pub ends-input : (space input : List ℕ) (n : ℕ) (w : Written) → tapeLimit < length space → ReadFrom input space n → Ends (take n space) w → Ends input w

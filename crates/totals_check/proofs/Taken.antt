@@ -1,7 +1,7 @@
 -- What the program knows of a tape that it does not refuse: its plan, its points, and that all fits.
-use Prim.Native.Nat.{ℕ, _≤_, _<_}
+use Prim.Native.Nat.{ℕ, _≤_}
 use mathlib.Core.Path.{_≡_, sym, _∙_, refl, ap, ap₂}
-use mathlib.Core.Bool.{true, false, not}
+use mathlib.Core.Bool.{false, not}
 use mathlib.Core.List.{List, [], _∷_, _++_}
 use native.Mathlib.Omega.{arith}
 use borrow.Author.Tests.{eqb-true, ltb-false, le-ltb}
@@ -22,7 +22,8 @@ use Rattle.plan_spec.specs.declared.types.Planned.{Planned}
 use Rattle.plan_spec.proofs.Answering.{refusal-of, plan-of, prices-of}
 use Rattle.plan_spec.proofs.Accepting.{planning-accepted, lists-slotted, slotted-accepted, planned-accepted, or-none}
 use Rattle.plan_spec.proofs.Demand.{plan-sound}
-use Rattle.cube_spec.proofs.Dues.{none-both}
+use Rattle.cube_spec.proofs.Naturals.{clash}
+use Rattle.cube_spec.proofs.Dues.{none-first, none-both}
 use Rattle.tape_spec.specs.Tapes.{Campaign, campaign}
 use Rattle.tape_spec.specs.Reading.{orEmpty, scanChecks, shortSlice, readingChecks, readingRefusal, filledOr, reading}
 use Rattle.tape_spec.proofs.Refusing.{none-of-scan, after-scan}
@@ -31,14 +32,8 @@ use Rattle.report_spec.specs.Printed.{planFor, tooLarge, programChecks, program
 use Rattle.totals_check.specs.Judging.{judging}
 use Rattle.totals_check.proofs.Judged.{planning-numbered}
 
--- ---- no check of a list is due
-
-none-first : (c : Check) (l : List Check) → 0 < c .number → first (c ∷ l) ≡ 0 → (c .due ≡ false) × (first l ≡ 0)
-unfolding first
-none-first c l n h = by (c .due) (λ t. let z : c .number ≡ 0 = (rw t at h) in absurd (omega arith)) (λ t. (t, rw t at h))
-
 same : (m n : ℕ) → not (eqb m n) ≡ false → m ≡ n
-same m n e = by (eqb m n) (λ t. eqb-true m n t) (λ t. absurd (let z : true ≡ false = (rw t at e) in let y : _≡_ {A = ℕ} 0 1 = cc in omega arith))
+same m n e = by (eqb m n) (λ t. eqb-true m n t) (λ t. clash (rw t at e))
 
 module _ (tape : List ℕ) (judged : Planned) (e : judged ≡ judging tape) where
   abbrev c : Campaign

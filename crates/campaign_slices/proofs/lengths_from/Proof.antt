@@ -5,6 +5,7 @@ use native.Mathlib.Omega.{arith}
 use borrow.Author.Needs.{needs}
 use lib.ListN.{length, take}
 use lib.Seq.{sets}
+use Rattle.cube_spec.proofs.Stores.{next}
 use Rattle.campaign_slices.proofs.Racking as racking
 use Rattle.campaign_slices.proofs.lengths_from.Tie as tie
 use Rattle.campaign_slices.proofs.lengths_from.Statement.{statement}
@@ -40,7 +41,7 @@ loop-again : tie.Need-loop-again Inv-loop μ-loop
 loop-again c =
     let s = c .before .before in
     let v = s .loop .inv in
-    (search needs, v .1, rw (v .2) (racking.next _ (s .before .args .lengths .now) (s .loop .i) (omega arith)))
+    (search needs, v .1, rw (v .2) (next _ (s .before .args .lengths .now) (s .loop .i) (omega arith)))
 
 returns : tie.Need-returns Inv-loop μ-loop
 returns c =

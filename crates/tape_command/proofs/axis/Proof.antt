@@ -1,14 +1,15 @@
 -- `tape_command::axis` meets its contract. A 41 with its operand, or cut short.
+use native.Mathlib.Omega.{arith}
 use borrow.Author.Needs.{needs}
 use Rattle.tape_spec.proofs.Decoding as laws
 use Rattle.tape_command.proofs.axis.Statement.{statement}
 use Rattle.tape_command.proofs.axis.Tie as tie
 
-sub-if1 : tie.Need-sub-if1
-sub-if1 c = search needs
+add-next : tie.Need-add-next
+add-next c = search needs
 
 returns : tie.Need-returns
-returns c = let s = c .before .before in (laws.axis-cut _ _ (s .pre .0) (s .pre .1) (c .if1 .taken), tt)
+returns c = let s = c .before .before in (laws.axis-cut _ _ (s .pre .0) (s .pre .1) (omega arith), tt)
 
 add-pair : tie.Need-add-pair
 add-pair c = search needs
@@ -16,11 +17,8 @@ add-pair c = search needs
 pair-requires : tie.Need-pair-requires
 pair-requires c κs = search needs
 
-add-t4 : tie.Need-add-t4
-add-t4 c = search needs
-
 returns-2 : tie.Need-returns-2
-returns-2 c = let s = c .before .before .before in (rw (c .pair .ensures) (laws.axis-told _ _ (s .pre .0) (s .pre .1) (c .before .if1 .left)), tt)
+returns-2 c = let s = c .before .before .before in (rw (c .pair .ensures) (laws.axis-told _ _ (s .pre .0) (s .pre .1) (omega arith)), tt)
 
 pub axis-spec : {M : Type 1} → statement M
-axis-spec = tie.close (tie.spec sub-if1 returns add-pair pair-requires add-t4 returns-2)
+axis-spec = tie.close (tie.spec add-next returns add-pair pair-requires returns-2)

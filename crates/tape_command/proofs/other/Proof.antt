@@ -1,4 +1,4 @@
--- `tape_command::other` meets its contract. Each byte below 52 that begins a command has its law.
+-- `tape_command::other` meets its contract. The floats are told by a range, the other commands by their bytes.
 use native.Mathlib.Omega.{arith}
 use borrow.Author.Needs.{needs}
 use Rattle.tape_spec.proofs.Decoding as laws
@@ -15,7 +15,7 @@ returns : tie.Need-returns
 returns c =
     let p = c .before .before .before .before .before .pre in
     let l = c .if2 .taken in
-    (laws.other-told _ _ (p .0) (λ e. omega arith) (λ e. omega arith) (laws.not-single _ (p .1) (laws.past-float _ l)) (p .2) (λ e. omega arith), tt)
+    (laws.other-told _ _ (p .0) (λ e. omega arith) (λ e. omega arith) (laws.not-single _ (p .1) (λ e. omega arith) (λ e. omega arith)) (p .2) (λ e. omega arith), tt)
 
 shared-slice-read-if3 : tie.Need-shared-slice-read-if3
 shared-slice-read-if3 c = search needs
@@ -26,7 +26,8 @@ returns-2 c =
     let t = s .before .before in
     let p = t .before .before .before .pre in
     let l = t .if1 .taken in
-    (laws.other-told _ _ (p .0) (λ e. omega arith) (λ e. omega arith) (laws.not-single _ (p .1) (laws.even-float _ (c .if3 .taken))) (p .2) (λ e. omega arith), tt)
+    let v = c .if3 .taken in
+    (laws.other-told _ _ (p .0) (λ e. omega arith) (λ e. omega arith) (laws.not-single _ (p .1) (λ e. omega arith) (λ e. omega arith)) (p .2) (λ e. omega arith), tt)
 
 float-requires : tie.Need-float-requires
 float-requires c κs =
@@ -63,7 +64,8 @@ returns-7 c =
     let s = c .before .before in
     let p = s .before .before .before .pre in
     let r = c .match .rest in
-    (laws.other-told _ _ (p .0) (r .0 .0 .1) (r .0 .1) (laws.not-single _ (p .1) (laws.before-float _ (s .if1 .left))) (p .2) (r .1), tt)
+    let l = s .if1 .left in
+    (laws.other-told _ _ (p .0) (r .0 .0 .1) (r .0 .1) (laws.not-single _ (p .1) (λ e. omega arith) (λ e. omega arith)) (p .2) (r .1), tt)
 
 pub other-spec : {M : Type 1} → statement M
 other-spec =

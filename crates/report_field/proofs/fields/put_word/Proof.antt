@@ -1,4 +1,6 @@
-use Rattle.report_field.proofs.Spelling.{word-more, word-whole}
+-- `report_field::put_word` meets its contract: byte by byte.
+use Rattle.cube_spec.proofs.Stores.{next}
+use Rattle.report_field.proofs.Spelling.{word-whole}
 use lib.Seq.{sets}
 use lib.ListN.{length, take}
 use native.Mathlib.Omega.{arith}
@@ -7,8 +9,6 @@ use Prim.Native.Nat.{_≤_, _-_}
 use borrow.Author.Needs.{needs}
 use Rattle.report_field.proofs.fields.put_word.Statement.{statement}
 use Rattle.report_field.proofs.fields.put_word.Tie as tie
-use Rattle.report_field.proofs.fields.put_word.Reads as reads
-use Rattle.report_field.proofs.fields.put_word.Lts as lts
 
 abbrev Inv-loop : tie.InvT-loop
 Inv-loop out₀ word i₀ i-end out i = (i ≤ length word) × (length out ≡ length out₀) × (out ≡ sets out₀ 0 (take i word))
@@ -16,35 +16,27 @@ Inv-loop out₀ word i₀ i-end out i = (i ≤ length word) × (length out ≡ l
 abbrev μ-loop : tie.MeasureT-loop
 μ-loop out₀ word i₀ i-end out i = length word - i
 
--- src/fields.rt:18:5
 loop-holds : tie.Need-loop-holds Inv-loop μ-loop
 loop-holds c = (search needs, refl, refl)
 
--- src/fields.rt:19:18
 shared-slice-read-out : tie.Need-shared-slice-read-out Inv-loop μ-loop
 shared-slice-read-out c = search needs
 
--- src/fields.rt:19:9
 slice-write-out : tie.Need-slice-write-out Inv-loop μ-loop
 slice-write-out c = search needs
 
--- src/fields.rt:18:9
 add-i : tie.Need-add-i Inv-loop μ-loop
 add-i c = search needs
 
--- src/fields.rt:18:5
 loop-less : tie.Need-loop-less Inv-loop μ-loop
 loop-less c = search needs
 
--- src/fields.rt:18:5
 loop-again : tie.Need-loop-again Inv-loop μ-loop
-loop-again c = let l = c .before .before in let a = l .before .args in (search needs, search needs, rw (l .loop .inv .2) (word-more (a .out .now) (a .word .now) (l .loop .i) (omega arith)))
+loop-again c = let l = c .before .before in let a = l .before .args in (search needs, search needs, rw (l .loop .inv .2) (next (a .out .now) (a .word .now) (l .loop .i) (omega arith)))
 
--- src/fields.rt:14:1
 same-length : tie.Need-same-length Inv-loop μ-loop
 same-length c = search needs
 
--- src/fields.rt:14:1
 returns : tie.Need-returns Inv-loop μ-loop
 returns c = let l = c .before in let a = l .before .args in let q : l .loop .i ≡ length (a .word .now) = omega arith in (refl, l .loop .inv .2 ∙ word-whole (a .out .now) (a .word .now) (l .loop .i) q)
 
