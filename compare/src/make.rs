@@ -53,7 +53,8 @@ pub fn kind_count() -> usize {
     kinds().count()
 }
 
-/// Kinds come in turn, so that every one is made before any comes again.
+/// Kinds come in turn, so that every one is made before any comes again. One that is listed twice
+/// comes twice as often.
 pub fn made(seed: u64, index: u64) -> Made {
     let mut random = Random::nth(seed, index);
     let kind = kinds().cycle().nth(index as usize % kind_count());

@@ -62,7 +62,7 @@ fn at_borders() -> Vec<Group> {
         group(
             "request",
             "\"0.125 m gives 12, 0.375 m gives 38, −0.125 m gives −12, and both zeros give 0\"",
-            [0.125, 0.375, -0.125, 0.0, -0.0].map(metres).to_vec(),
+            [0.125, 0.375, -0.125, 0.0, -0.0].map(spell::metres).to_vec(),
         ),
         group(
             "zero-or-one",
@@ -107,10 +107,6 @@ fn elsewhere() -> Vec<Group> {
             numbers.into_iter().flat_map(whole).collect(),
         ),
     ]
-}
-
-fn metres(value: f32) -> Command {
-    spell::reading(Reading::new(Unit::Metres, value))
 }
 
 fn whole(point: i32) -> [Command; 2] {

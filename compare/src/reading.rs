@@ -35,6 +35,11 @@ impl Reading {
         Reading { unit, bits: value.to_bits() }
     }
 
+    /// The float nearest to so many centimetres.
+    pub fn of_centimetres(unit: Unit, centimetres: f64) -> Reading {
+        Reading::new(unit, (centimetres / f64::from(unit.in_centimetres())) as f32)
+    }
+
     /// The whole centimetre nearest to the exact value, halves to the even one; or refusal 14 or 15.
     pub fn centimetres(self) -> Result<i32, Refusal> {
         // 24 bits times 17 fit into the 53 of a double, so the product is exact.

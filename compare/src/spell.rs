@@ -30,6 +30,14 @@ pub fn reading(Reading { unit, bits }: Reading) -> Command {
     [&[command], &bits.to_le_bytes()[..]].concat()
 }
 
+pub fn metres(value: f32) -> Command {
+    reading(Reading::new(Unit::Metres, value))
+}
+
+pub fn kilometres(value: f32) -> Command {
+    reading(Reading::new(Unit::Kilometres, value))
+}
+
 pub fn end() -> Command {
     vec![END]
 }

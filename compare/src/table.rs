@@ -2,8 +2,7 @@
 //! what it refuses, as an antt module.
 
 use crate::judge::Refusal;
-use crate::reading::{Reading, Unit};
-use crate::spell::{self, Command};
+use crate::spell::{self, kilometres, metres, Command};
 use crate::tape::{Run, LONGEST_TAPE};
 use crate::totals;
 
@@ -103,14 +102,6 @@ fn tape(lengths: &[u16], p: u8, points: &[i32]) -> Vec<u8> {
 
 fn repeated(count: u16, point: i32) -> Vec<u8> {
     spell::repeat(Run { count, point })
-}
-
-fn metres(value: f32) -> Command {
-    spell::reading(Reading::new(Unit::Metres, value))
-}
-
-fn kilometres(value: f32) -> Command {
-    spell::reading(Reading::new(Unit::Kilometres, value))
 }
 
 fn without_end(mut tape: Vec<u8>) -> Vec<u8> {

@@ -218,7 +218,7 @@ fn around(bits: u32, near: u32) -> impl Iterator<Item = u32> {
 }
 
 fn of_centimetres(unit: Unit, centimetres: f64) -> u32 {
-    ((centimetres / f64::from(unit.in_centimetres())) as f32).to_bits()
+    Reading::of_centimetres(unit, centimetres).bits
 }
 
 /// Zero, the first that is not denormal, the first that does not give 0, the first that is past the
@@ -247,7 +247,7 @@ fn ties(random: &mut Random, unit: Unit, n: u64) -> Vec<u32> {
 /// Readings as sets log them: some centimetres, up to 50 metres of either sign.
 pub fn usual(random: &mut Random, unit: Unit) -> Reading {
     let centimetres = random.below(10_001) as f64 - 5_000.0;
-    Reading { unit, bits: of_centimetres(unit, centimetres) }
+    Reading::of_centimetres(unit, centimetres)
 }
 
 /// A usual one, or now and then any pattern, half of these not finite.

@@ -5,8 +5,8 @@ use std::hint::black_box;
 use compare::judge::Refusal;
 use compare::make;
 use compare::random::Random;
-use compare::reading::{Reading, Unit};
-use compare::spell::{self, Command};
+use compare::reading::Unit;
+use compare::spell::{self, kilometres, metres, Command};
 use compare::tape::{self, Run, Tape};
 
 use crate::faults::Entry;
@@ -127,14 +127,6 @@ fn shown(bytes: &[u8]) -> String {
 
 fn repeat(count: u16, point: i32) -> Command {
     spell::repeat(Run { count, point })
-}
-
-fn metres(value: f32) -> Command {
-    spell::reading(Reading::new(Unit::Metres, value))
-}
-
-fn kilometres(value: f32) -> Command {
-    spell::reading(Reading::new(Unit::Kilometres, value))
 }
 
 /// A tape of all commands, the points few; lawful but for readings that may be refused.

@@ -54,21 +54,16 @@ fn signed(random: &mut Random, size: Size) -> Reading {
     Reading { unit, bits }
 }
 
-fn of_centimetres(unit: Unit, centimetres: f64) -> u32 {
-    let value = centimetres / f64::from(unit.in_centimetres());
-    (value as f32).to_bits()
-}
-
 /// As sets log it: some number of centimetres, seldom a float exactly.
 fn logged(random: &mut Random, unit: Unit) -> u32 {
-    of_centimetres(unit, random.below(100_000) as f64)
+    Reading::of_centimetres(unit, random.below(100_000) as f64).bits
 }
 
 /// On either side of a half, from that between 0 and 1 on.
 fn near_half(random: &mut Random, unit: Unit) -> u32 {
     let below = 1 << random.below(12);
     let half = random.below(below) as f64 + 0.5;
-    of_centimetres(unit, half) - 2 + random.below(5) as u32
+    Reading::of_centimetres(unit, half).bits - 2 + random.below(5) as u32
 }
 
 /// An odd number of eighths of a metre, or of 64ths of a kilometre, is a half exactly.
@@ -79,7 +74,7 @@ fn tie(random: &mut Random, unit: Unit) -> u32 {
     };
     let below = 1 << random.between(0, bits);
     let odd = 2 * random.below(below) + 1;
-    of_centimetres(unit, odd as f64 * centimetres) - 1 + random.pick(&[0, 1, 1, 2])
+    Reading::of_centimetres(unit, odd as f64 * centimetres).bits - 1 + random.pick(&[0, 1, 1, 2])
 }
 
 /// Of the refusal that is asked for.
