@@ -27,9 +27,10 @@ use Rattle.run_spec.specs.Entries.{Outcome, outcome, stepChecks, stepRefusal, s
 use Rattle.run_view.specs.declared.types.Part.{Part}
 use Rattle.run_view.specs.Places.{partOf}
 use Rattle.run_view.proofs.Placed.{shown-part}
-use Rattle.campaign_slices.specs.Scans.{writtenOr}
-use Rattle.campaign_slices.specs.Racks.{planFrom, bytesOf, lentRefusal, cellsTold, cellsPriced}
+use Rattle.campaign_slices.specs.Lent.{lentRefusal, writtenOr}
+use Rattle.campaign_slices.specs.Racks.{planFrom, bytesOf, cellsTold, cellsPriced}
 use Rattle.campaign_slices.proofs.Racking as racking
+use Rattle.campaign_slices.proofs.Lending as lending
 use Rattle.campaign.specs.Calls.{wrongSlices, makeRefusal, made, madeOr, making, readBack, runRefusal, ran, ranOr, running, cellsPart, partRefusal, parting}
 
 -- ---- planning
@@ -111,7 +112,7 @@ module _ (g q : Plan) (e : g ≡ q) where
       pub run-refused : (k ≡ 0 → ⊥) → ran k work at step ≡ running q array work at step
       unfolding running runRefusal
       run-refused h =
-          let d = racking.refused (stepChecks q (length array) (length work) at) 5 step k first-is h [] in
+          let d = lending.refused (stepChecks q (length array) (length work) at) 5 step k first-is h [] in
           kept k (stepping q array work at) h ∙ ap (λ n. ranOr n (stepping q array work at) work at step) (d .0)
 
       module _ (h : k ≡ 0) where
@@ -123,14 +124,14 @@ module _ (g q : Plan) (e : g ≡ q) where
         pub not-run : (length step ≡ 5 → ⊥) → ran 13 work at step ≡ running q array work at step
         unfolding running
         not-run l =
-            let d = given 13 (racking.wrong 5 step [] l .0) in
+            let d = given 13 (lending.wrong 5 step [] l .0) in
             kept 13 (stepping q array work at) (λ z. omega arith) ∙ ap (λ n. ranOr n (stepping q array work at) work at step) d
 
         pub run : length step ≡ 5 → (t : Told) (w : List ℤ) (to r : ℕ) (o : List ℕ) → outcome t w to ≡ stepping g array work at
             → r ≡ lentRefusal [] 5 (length step) → o ≡ writtenOr r (cellsTold t) step → ran r w to o ≡ running q array work at step
         unfolding running ranOr writtenOr
         run l t w to r o es er eo =
-            let z : r ≡ 0 = er ∙ sym (racking.right 5 step [] l [] refl .0) in
+            let z : r ≡ 0 = er ∙ sym (lending.right 5 step [] l [] refl .0) in
             let c : o ≡ cellsTold t = rw z at eo in
             let d : 0 ≡ runRefusal q (length array) (length work) at (length step) = sym z ∙ given r er in
             let s : outcome t w to ≡ stepping q array work at = es ∙ ap (λ x. stepping x array work at) e in
@@ -144,7 +145,7 @@ module _ (g q : Plan) (e : g ≡ q) where
     module _ (part : List ℕ) (k : ℕ) (ek : k ≡ viewRefusal g work at b) where
       pub part-refused : (k ≡ 0 → ⊥) → (k ≡ partRefusal q work at b (length part)) × (part ≡ parting q work at b part)
       unfolding viewRefusal partRefusal parting
-      part-refused h = racking.refused (viewChecks q work at b) 2 part k (ek ∙ ap (λ x. viewRefusal x work at b) e) h _
+      part-refused h = lending.refused (viewChecks q work at b) 2 part k (ek ∙ ap (λ x. viewRefusal x work at b) e) h _
 
       pub part-given : k ≡ 0 → (s : Part) → s ≡ partOf (planGrid g) at b → (r : ℕ) (w : List ℕ) → r ≡ lentRefusal [] 2 (length part)
           → w ≡ writtenOr r (cellsPart s) part → (r ≡ partRefusal q work at b (length part)) × (w ≡ parting q work at b part)
@@ -152,7 +153,7 @@ module _ (g q : Plan) (e : g ≡ q) where
       part-given h s es r w er ew =
           let same : s ≡ partOf (planGrid q) at b = es ∙ ap (λ x. partOf (planGrid x) at b) e in
           let none : first (viewChecks q work at b) ≡ 0 = sym (ek ∙ ap (λ x. viewRefusal x work at b) e) ∙ h in
-          racking.passed (viewChecks q work at b) 2 part view-numbered none r _ w er (ew ∙ ap (λ (x : Part). writtenOr r (cellsPart x) part) same)
+          lending.passed (viewChecks q work at b) 2 part view-numbered none r _ w er (ew ∙ ap (λ (x : Part). writtenOr r (cellsPart x) part) same)
 
   pub gather-is : (work result w : List ℤ) (at r : ℕ) → (r ≡ gatherRefusal g (length work) at (length result)) × (w ≡ gathering g work at result)
       → (r ≡ gatherRefusal q (length work) at (length result)) × (w ≡ gathering q work at result)

@@ -14,8 +14,8 @@ use Rattle.rack_spec.specs.Finding.{planGrid}
 use Rattle.run_spec.specs.Entries.{Outcome, stepChecks, stepping, viewChecks}
 use Rattle.run_view.specs.declared.types.Part.{Part}
 use Rattle.run_view.specs.Places.{partOf}
-use Rattle.campaign_slices.specs.Scans.{writtenOr}
-use Rattle.campaign_slices.specs.Racks.{planFrom, bytesOf, lentRefusal, cellsTold, cellsPriced}
+use Rattle.campaign_slices.specs.Lent.{lentRefusal, writtenOr}
+use Rattle.campaign_slices.specs.Racks.{planFrom, bytesOf, cellsTold, cellsPriced}
 
 -- ---- planning: lengths, p, two slices for the plan and one for its prices
 

@@ -1,3 +1,4 @@
+pub mod Lending
 pub mod Laws
 pub mod Racking
 pub mod Cases

@@ -20,9 +20,9 @@ use Rattle.rack_spec.proofs.Refusing.{plan-numbered, plan-due, plan-passed}
 use Rattle.rack_spec.specs.Held as Held
 use Rattle.rack_spec.specs.Finding.{planGrid}
 use Rattle.rack_spec.specs.Answers.{Told, toldAt, pastEnd, heldChecks, heldRefusal, holding, counting}
-use Rattle.campaign_slices.specs.Scans.{writtenOr}
-use Rattle.campaign_slices.specs.Racks.{noPlan, planFrom, bytesOf, lentRefusal, priceRefusal, countRefusal, atChecks, atRefusal, holdRefusal, cellsTold, cellsPriced, priced, counted, steppedAt, held}
-use Rattle.campaign_slices.proofs.Laws.{left-alone}
+use Rattle.campaign_slices.specs.Lent.{lentRefusal, writtenOr}
+use Rattle.campaign_slices.specs.Racks.{noPlan, planFrom, bytesOf, priceRefusal, countRefusal, atChecks, atRefusal, holdRefusal, cellsTold, cellsPriced, priced, counted, steppedAt, held}
+use Rattle.campaign_slices.proofs.Lending.{refused, passed}
 
 -- ---- copies
 
@@ -117,34 +117,6 @@ refused-is : {A : Type 0} (n : ℕ) (a : A) (k : ℕ) → refuses k ≡ answered
 unfolding answered
 refused-is zero a k e = impossible (cc)
 refused-is (suc n) a k e = let q : k ≡ suc n = cc in (q, λ z. omega arith)
-
--- a slice of the wrong length, and of the right one
-module _ {A : Type 0} (n : ℕ) (s new : List A) where
-  pub wrong : (length s ≡ n → ⊥) → (13 ≡ lentRefusal [] n (length s)) × (s ≡ writtenOr 13 new s)
-  unfolding lentRefusal first writtenOr
-  wrong h = rw (ne-eqb (length s) n h) (refl, refl)
-
-  pub right : length s ≡ n → (w : List A) → w ≡ new → (0 ≡ lentRefusal [] n (length s)) × (w ≡ writtenOr 0 new s)
-  unfolding lentRefusal first writtenOr
-  right h w e = rw (eq-eqb (length s) n h) (refl, e)
-
--- the refusal of some checks and of a slice, and the slice afterwards
-module _ {A : Type 0} (checks : List Check) (n : ℕ) (s : List A) where
-  abbrev lent : ℕ
-  lent = lentRefusal checks n (length s)
-
-  pub refused : (k : ℕ) → k ≡ first checks → (k ≡ 0 → ⊥) → (new : List A) → (k ≡ lent) × (s ≡ writtenOr lent new s)
-  unfolding lentRefusal
-  refused k e h new =
-      let q : k ≡ lent = e ∙ sym (first-due checks _ (λ z. h (e ∙ z))) in
-      (q, sym (left-alone lent new s (λ z. h (q ∙ z))))
-
-  pub passed : Numbered checks → first checks ≡ 0 → (r : ℕ) (new w : List A) → r ≡ lentRefusal [] n (length s) → w ≡ writtenOr r new s
-      → (r ≡ lent) × (w ≡ writtenOr lent new s)
-  unfolding lentRefusal
-  passed p e r new w er ew =
-      let q : r ≡ lent = er ∙ sym (first-passed checks _ p e) in
-      (q, ew ∙ ap (λ k. writtenOr k new s) q)
 
 pub one-cell : (s : List ℕ) (n : ℕ) → length s ≡ 1 → set s 0 n ≡ n ∷ []
 one-cell [] n h = absurd (omega arith)

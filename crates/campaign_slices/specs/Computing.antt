@@ -1,10 +1,11 @@
 -- Names every definition, so that a fact that computes with them says `unfolding computing`.
 use Prim.Native.Nat.{ℕ}
+use Rattle.campaign_slices.specs.Lent
 use Rattle.campaign_slices.specs.Scans
 use Rattle.campaign_slices.specs.Racks
 use Rattle.tape_spec.specs.Computing as tape_spec
 use Rattle.rack_spec.specs.Computing as rack_spec
 
 unfoldable pub computing : ℕ
-unfolding Scans.cellsOf Scans.lentScanRefusal Scans.writtenOr Scans.lentScan Racks.noPlan Racks.planFrom Racks.bytesOf Racks.lentRefusal Racks.countRefusal Racks.priceRefusal Racks.atChecks Racks.atRefusal Racks.holdRefusal Racks.counted Racks.priced Racks.steppedAt Racks.held tape_spec.computing rack_spec.computing
+unfolding Lent.lentRefusal Lent.writtenOr Scans.cellsOf Scans.lentScanRefusal Scans.lentScan Racks.noPlan Racks.planFrom Racks.bytesOf Racks.countRefusal Racks.priceRefusal Racks.atChecks Racks.atRefusal Racks.holdRefusal Racks.counted Racks.priced Racks.steppedAt Racks.held tape_spec.computing rack_spec.computing
 computing = 0

@@ -1,3 +1,4 @@
+pub mod Lent
 pub mod Scans
 pub mod Racks
 pub mod Computing

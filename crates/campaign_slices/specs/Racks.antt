@@ -1,11 +1,11 @@
 -- Prices, T, the step at a position and held as a caller in C gets them: the plan that two slices hold, the refusals, and the cells that are written.
 use Prim.Native.Nat.{ℕ}
-use mathlib.Core.Bool.{_&&_, not}
+use mathlib.Core.Bool.{_&&_}
 use mathlib.Core.List.{List, [], _∷_, _++_}
 use lib.Dec.{eqb}
 use lib.ListN.{length, getD, take, drop}
 use Rattle.cube_spec.specs.Boxes.{pick}
-use Rattle.cube_spec.specs.Checks.{Check, check, first}
+use Rattle.cube_spec.specs.Checks.{Check, check}
 use Rattle.plan_spec.specs.declared.types.Plan.{Plan}
 use Rattle.plan_spec.specs.declared.types.Prices.{Prices}
 use Rattle.plan_spec.specs.Plans.{stepCount, listsOf, slotted}
@@ -15,7 +15,7 @@ use Rattle.rack_spec.specs.Steps.{steps}
 use Rattle.rack_spec.specs.Held as Held
 use Rattle.rack_spec.specs.Finding.{planGrid}
 use Rattle.rack_spec.specs.Answers.{Told, expands, transfers, finishes, done, refused, toldAt, pastEnd, heldChecks}
-use Rattle.campaign_slices.specs.Scans.{writtenOr}
+use Rattle.campaign_slices.specs.Lent.{lentRefusal, writtenOr}
 
 -- ---- the plan
 
@@ -36,10 +36,6 @@ unfoldable pub bytesOf : Plan → List ℕ
 bytesOf q = q .axes ∷ q .p ∷ (q .order ++ q .exponents)
 
 -- ---- the refusals
-
--- some checks, and then 13, "A lent result slice has the wrong length.": `lent` cells where `due` are to be written
-unfoldable pub lentRefusal : List Check → ℕ → ℕ → ℕ
-lentRefusal checks due lent = first (checks ++ (check 13 (not (eqb lent due)) ∷ []))
 
 unfoldable pub countRefusal : Plan → ℕ → ℕ
 countRefusal q lent = lentRefusal (planChecks q) 1 lent

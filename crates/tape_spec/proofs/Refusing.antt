@@ -34,7 +34,7 @@ unfolding entryChecks
 entries-numbered [] = tt
 entries-numbered (e ∷ es) = (omega arith, (omega arith, entries-numbered es))
 
-numbered : (tape : List ℕ) → Numbered (scanChecks tape)
+pub numbered : (tape : List ℕ) → Numbered (scanChecks tape)
 unfolding scanChecks
 numbered tape = (omega arith, (omega arith, entries-numbered (entriesIn (form tape))))
 
@@ -51,7 +51,7 @@ kept-form false true x e = absurd (omega arith)
 kept-form false false x e = refl
 
 module _ (tape : List ℕ) (f : Scan) (e : f ≡ scanning tape) where
-  refusal : f .refusal ≡ scanRefusal tape
+  pub refusal : f .refusal ≡ scanRefusal tape
   unfolding scanning
   refusal = rw e (refusal-is (scanRefusal tape) (orEmpty (campaign tape)))
 

@@ -1,12 +1,12 @@
 -- `campaign_slices::put_step` meets its contract.
 use mathlib.Core.Path.{_∙_}
 use borrow.Author.Needs.{needs}
-use Rattle.campaign_slices.proofs.Racking as racking
+use Rattle.campaign_slices.proofs.Lending as lending
 use Rattle.campaign_slices.proofs.put_step.Tie as tie
 use Rattle.campaign_slices.proofs.put_step.Statement.{statement}
 
 returns : tie.Need-returns
-returns c = let s = c .before .before in racking.wrong 5 (s .args .out .now) _ (c .if1 .taken)
+returns c = let s = c .before .before in lending.wrong 5 (s .args .out .now) _ (c .if1 .taken)
 
 cells-of-requires : tie.Need-cells-of-requires
 cells-of-requires c κs = search needs
@@ -22,7 +22,7 @@ returns-2 c =
     let p = c .before .before in
     let m = p .before .before .before in
     let s = m .before .before in
-    racking.right 5 (s .args .out .now) _ (m .if1 .left) _ (p .put-cells .ensures ∙ p .before .before .cells-of .ensures)
+    lending.right 5 (s .args .out .now) _ (m .if1 .left) _ (p .put-cells .ensures ∙ p .before .before .cells-of .ensures)
 
 pub put-step-spec : {M : Type 1} → statement M
 put-step-spec =
