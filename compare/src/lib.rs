@@ -21,6 +21,7 @@ pub mod rack;
 pub mod random;
 pub mod reading;
 pub mod report;
+pub mod scans;
 pub mod search;
 pub mod shape;
 pub mod show;

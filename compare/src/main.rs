@@ -4,7 +4,9 @@ use std::{env, io};
 
 use compare::judge::Refusal;
 use compare::plan::{planned, Plan};
-use compare::{bench, check, description, listed, make, patterns, price, show, table, totals};
+use compare::{
+    bench, check, description, listed, make, patterns, price, scans, show, table, totals,
+};
 
 const USAGE: &str = "\
 usage: compare totals                   tape on standard input, totals on standard output
@@ -17,9 +19,9 @@ usage: compare totals                   tape on standard input, totals on standa
        compare check PROGRAM SEED N     run a program on N made tapes and compare
        compare bench [PROGRAM]          time the largest campaigns, each as a whole process
        compare table TOPIC              cases for the definitions, as an antt module:
-                                        tapes (with their output), steps (with what is
-                                        held), memory (after each step) or readings
-                                        (with what each gives)
+                                        tapes (with their output), scans (of other
+                                        tapes), steps (with what is held), memory (after
+                                        each step) or readings (with what each gives)
 
 A report is what is printed for a tape. A campaign as text, for example:
 
@@ -70,6 +72,7 @@ fn run(words: &[&str]) -> Option<io::Result<bool>> {
 fn module(topic: &str) -> Option<String> {
     match topic {
         "tapes" => Some(table::module()),
+        "scans" => Some(scans::module()),
         "steps" => Some(listed::steps_module()),
         "memory" => Some(listed::memory_module()),
         "readings" => Some(patterns::module()),

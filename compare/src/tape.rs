@@ -1,6 +1,6 @@
 //! The tape's form: all axis lengths, then p, then points, then the end.
 
-use crate::judge::Refusal;
+use crate::judge::{Refusal, MOST_AXES};
 use crate::reading::{Reading, Unit};
 
 pub const LONGEST_TAPE: usize = 65_536;
@@ -22,8 +22,8 @@ pub struct Run {
     pub point: i32,
 }
 
-/// What a tape of the right form says. Runs stay as they are: a tape can hold
-/// over 600 million points.
+/// What a tape of the right form says. Runs stay as they are, one for each
+/// command: a tape can hold over 600 million points.
 #[derive(Clone, Debug, PartialEq, Eq)]
 pub struct Tape {
     pub lengths: Vec<u64>,
@@ -34,6 +34,16 @@ pub struct Tape {
 impl Tape {
     pub fn point_count(&self) -> u64 {
         self.runs.iter().map(|run| u64::from(run.count)).sum()
+    }
+
+    /// The 41s, the 42, those of the points and the 45.
+    pub fn command_count(&self) -> u64 {
+        (self.lengths.len() + 1 + self.runs.len() + 1) as u64
+    }
+
+    /// Of as many axes as a plan can have; 0 past the last.
+    pub fn first_lengths(&self) -> [u64; MOST_AXES] {
+        std::array::from_fn(|axis| self.lengths.get(axis).copied().unwrap_or(0))
     }
 
     pub fn points(&self) -> Vec<i32> {

@@ -40,3 +40,11 @@ module _ {A : Type 0} (checks : List Check) (n : ℕ) (s : List A) where
   passed p e r new w er ew =
       let q : r ≡ lent = er ∙ sym (first-passed checks _ p e) in
       (q, ew ∙ ap (λ k. writtenOr k new s) q)
+
+  -- the checks being passed, by the slice's length
+  module _ (p : Numbered checks) (e : first checks ≡ 0) (new : List A) where
+    pub wrong-after : (length s ≡ n → ⊥) → (13 ≡ lent) × (s ≡ writtenOr lent new s)
+    wrong-after h = let w = wrong n s new h in passed p e 13 new s (w .0) (w .1)
+
+    pub right-after : length s ≡ n → (w : List A) → w ≡ new → (0 ≡ lent) × (w ≡ writtenOr lent new s)
+    right-after h w q = let r = right n s new h w q in passed p e 0 new w (r .0) (r .1)

@@ -6,9 +6,9 @@ use native.Mathlib.Omega.{arith}
 use borrow.Author.Tests.{eq-eqb, ne-eqb, lt-ltb, le-ltb}
 use lib.ListN.{length, take, drop, set, getD, length-drop, length-append, length-set, drop-of-length-le}
 use lib.Seq.{sets, sets-eq, length-sets, take-all, length-take-le, getD-drop, take-append-seam, drop-append-seam}
-use Rattle.cube_spec.specs.Checks.{Check, check, first, gives, refuses, answered}
+use Rattle.cube_spec.specs.Checks.{check, first, gives, refuses, answered}
 use Rattle.cube_spec.proofs.Naturals.{impossible}
-use Rattle.cube_spec.proofs.Dues.{Numbered, first-due, first-passed}
+use Rattle.cube_spec.proofs.Dues.{Numbered}
 use Rattle.cube_spec.proofs.Stores.{joined, next}
 use Rattle.plan_spec.specs.declared.types.Plan.{Plan}
 use Rattle.plan_spec.specs.declared.types.Prices.{Prices}

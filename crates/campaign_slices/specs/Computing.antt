@@ -7,5 +7,5 @@ use Rattle.tape_spec.specs.Computing as tape_spec
 use Rattle.rack_spec.specs.Computing as rack_spec
 
 unfoldable pub computing : ℕ
-unfolding Lent.lentRefusal Lent.writtenOr Scans.cellsOf Scans.lentScanRefusal Scans.lentScan Racks.noPlan Racks.planFrom Racks.bytesOf Racks.countRefusal Racks.priceRefusal Racks.atChecks Racks.atRefusal Racks.holdRefusal Racks.counted Racks.priced Racks.steppedAt Racks.held tape_spec.computing rack_spec.computing
+unfolding Lent.lentRefusal Lent.writtenOr Scans.cellsOf Scans.lentScanRefusal Scans.lentScan Scans.openRefusal Scans.openedArray Scans.openedScan Racks.noPlan Racks.planFrom Racks.bytesOf Racks.countRefusal Racks.priceRefusal Racks.atChecks Racks.atRefusal Racks.holdRefusal Racks.counted Racks.priced Racks.steppedAt Racks.held tape_spec.computing rack_spec.computing
 computing = 0

@@ -7,20 +7,37 @@ ghost use lib.ListN.{length, take, drop};
 ghost use lib.Seq.{sets};
 ghost use Rattle.rack_spec.specs.Answers.{told};
 ghost use Rattle.campaign_slices.specs.Lent.{lentRefusal, writtenOr};
-ghost use Rattle.campaign_slices.specs.Scans.{cells};
+ghost use Rattle.campaign_slices.specs.Scans.{cells, cellsOf};
 ghost use Rattle.campaign_slices.specs.Racks.{noPlan, planFrom, bytesOf, cellsTold, cellsPriced};
 use plan_spec::types::Plan;
 use plan_spec::types::Prices;
 use rack_spec::types::Step;
+use tape_spec::types::Scan;
 
-// Puts the lengths in the cells from 3 on.
-pub fn put(out: &mut [u64], lengths: [u32; 8])
+// The cells of a scan.
+pub const SCAN_CELLS: usize = 12;
+
+// Puts the lengths in the cells from 4 on.
+fn put(out: &mut [u64], lengths: [u32; 8])
     requires { ⌜ length (now out) ≡ cells ⌝ }
-    ensures { λ _. ⌜ now (out .exit) ≡ sets (now (out .entry)) 3 lengths ⌝ }
+    ensures { λ _. ⌜ now (out .exit) ≡ sets (now (out .entry)) 4 lengths ⌝ }
 {
     for i in 0..8 {
-        out[3 + i] = lengths[i] as u64;
+        out[4 + i] = lengths[i] as u64;
     }
+}
+
+// Puts what a scan tells in its cells.
+pub fn put_scan(out: &mut [u64], found: Scan)
+    requires { ⌜ length (now out) ≡ cells ⌝ }
+    ensures { λ _. ⌜ now (out .exit) ≡ cellsOf found ⌝ }
+{
+    out[0] = found.axes as u64;
+    out[1] = found.p as u64;
+    out[2] = found.points;
+    out[3] = found.commands;
+    let lengths = found.lengths;
+    put(out, lengths);
 }
 
 // Eight bytes of a slice.

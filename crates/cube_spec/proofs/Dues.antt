@@ -22,6 +22,10 @@ pub none-first : (c : Check) (l : List Check) → 0 < c .number → first (c ∷
 unfolding first
 none-first c l n h = by (c .due) (λ t. let z : c .number ≡ 0 = rw t at h in absurd (omega arith)) (λ t. (t, rw t at h))
 
+pub numbered-both : (l r : List Check) → Numbered l → Numbered r → Numbered (l ++ r)
+numbered-both [] r n m = m
+numbered-both (c ∷ l) r n m = (n .0, numbered-both l r (n .1) m)
+
 pub first-passed : (l r : List Check) → Numbered l → first l ≡ 0 → first (l ++ r) ≡ first r
 unfolding first
 first-passed [] r n h = refl

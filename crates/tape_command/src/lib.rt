@@ -1,10 +1,9 @@
 // Decoding, in one place: the command at a position of a tape. A command's operands are read only where the tape has them all.
 ghost use mathlib.Core.Path.{_≡_};
-ghost use mathlib.Core.Bool.{true};
 ghost use Prim.Native.Nat.{_<_};
 ghost use lib.ListN.{length, getD};
-ghost use Rattle.tape_spec.specs.Tapes.{single};
-ghost use Rattle.tape_spec.specs.Decoding.{meant, few, decoding};
+ghost use Rattle.tape_reading.specs.Readings.{Floating};
+ghost use Rattle.tape_spec.specs.Decoding.{meant, Known, decoding};
 use tape_operand::pair;
 use tape_operand::quad;
 use tape_reading::signed;
@@ -13,7 +12,7 @@ use tape_spec::types::Command;
 // 41 at a position.
 fn axis(tape: &[u8], at: usize) -> Command
     requires { ⌜ (at < length (now tape)) × (getD (now tape) at 0 ≡ 0x41) ⌝ }
-    ensures { λ r. ⌜ (meant r ≡ decoding (now (tape .entry)) at) × few r ⌝ }
+    ensures { λ r. ⌜ (meant r ≡ decoding (now (tape .entry)) at) × Known r ⌝ }
 {
     let next = at + 3;
     if tape.len() < next {
@@ -25,7 +24,7 @@ fn axis(tape: &[u8], at: usize) -> Command
 // 42 at a position.
 fn boards(tape: &[u8], at: usize) -> Command
     requires { ⌜ (at < length (now tape)) × (getD (now tape) at 0 ≡ 0x42) ⌝ }
-    ensures { λ r. ⌜ (meant r ≡ decoding (now (tape .entry)) at) × few r ⌝ }
+    ensures { λ r. ⌜ (meant r ≡ decoding (now (tape .entry)) at) × Known r ⌝ }
 {
     let next = at + 2;
     if tape.len() < next {
@@ -35,21 +34,21 @@ fn boards(tape: &[u8], at: usize) -> Command
 }
 
 // 4B and 4D at a position.
-fn float(tape: &[u8], at: usize) -> Command
-    requires { ⌜ (at < length (now tape)) × (single (getD (now tape) at 0) ≡ true) ⌝ }
-    ensures { λ r. ⌜ (meant r ≡ decoding (now (tape .entry)) at) × few r ⌝ }
+fn float(tape: &[u8], at: usize, command: u8) -> Command
+    requires { ⌜ (at < length (now tape)) × (getD (now tape) at 0 ≡ command) × Floating command ⌝ }
+    ensures { λ r. ⌜ (meant r ≡ decoding (now (tape .entry)) at) × Known r ⌝ }
 {
     let next = at + 5;
     if tape.len() < next {
         return Command::Bad;
     }
-    Command::Float(tape[at], quad(tape, at + 1), next)
+    Command::Float(command, quad(tape, at + 1), next)
 }
 
 // 56 at a position.
 fn point(tape: &[u8], at: usize) -> Command
     requires { ⌜ (at < length (now tape)) × (getD (now tape) at 0 ≡ 0x56) ⌝ }
-    ensures { λ r. ⌜ (meant r ≡ decoding (now (tape .entry)) at) × few r ⌝ }
+    ensures { λ r. ⌜ (meant r ≡ decoding (now (tape .entry)) at) × Known r ⌝ }
 {
     let next = at + 5;
     if tape.len() < next {
@@ -61,7 +60,7 @@ fn point(tape: &[u8], at: usize) -> Command
 // 52 at a position.
 fn repeated(tape: &[u8], at: usize) -> Command
     requires { ⌜ (at < length (now tape)) × (getD (now tape) at 0 ≡ 0x52) ⌝ }
-    ensures { λ r. ⌜ (meant r ≡ decoding (now (tape .entry)) at) × few r ⌝ }
+    ensures { λ r. ⌜ (meant r ≡ decoding (now (tape .entry)) at) × Known r ⌝ }
 {
     let next = at + 7;
     if tape.len() < next {
@@ -76,20 +75,20 @@ fn repeated(tape: &[u8], at: usize) -> Command
 
 // A command that is neither a 56 nor a 52. 4B and 4D, the odd bytes from 4B to 4D, are told by a range and not by a case each, so that the compiler
 // keeps one plain test each for 56 and 52 (DECISIONS 89).
-fn other(tape: &[u8], at: usize) -> Command
-    requires { ⌜ (at < length (now tape)) × (getD (now tape) at 0 ≡ 0x56 → ⊥) × (getD (now tape) at 0 ≡ 0x52 → ⊥) ⌝ }
-    ensures { λ r. ⌜ (meant r ≡ decoding (now (tape .entry)) at) × few r ⌝ }
+fn other(tape: &[u8], at: usize, command: u8) -> Command
+    requires { ⌜ (at < length (now tape)) × (getD (now tape) at 0 ≡ command) × (command ≡ 0x56 → ⊥) × (command ≡ 0x52 → ⊥) ⌝ }
+    ensures { λ r. ⌜ (meant r ≡ decoding (now (tape .entry)) at) × Known r ⌝ }
 {
-    if 0x4B <= tape[at] {
-        if 0x4D < tape[at] {
+    if 0x4B <= command {
+        if 0x4D < command {
             return Command::Bad;
         }
-        if tape[at] % 2 == 0 {
+        if command % 2 == 0 {
             return Command::Bad;
         }
-        return float(tape, at);
+        return float(tape, at, command);
     }
-    match tape[at] {
+    match command {
         0x41 => axis(tape, at),
         0x42 => boards(tape, at),
         0x45 => Command::End(at + 1),
@@ -97,16 +96,17 @@ fn other(tape: &[u8], at: usize) -> Command
     }
 }
 
-// The command at a position.
+// The command at a position. Its byte is read once, here, and handed on.
 pub fn decode(tape: &[u8], at: usize) -> Command
-    ensures { λ r. ⌜ (meant r ≡ decoding (now (tape .entry)) at) × few r ⌝ }
+    ensures { λ r. ⌜ (meant r ≡ decoding (now (tape .entry)) at) × Known r ⌝ }
 {
     if tape.len() <= at {
         return Command::Bad;
     }
-    match tape[at] {
+    let command = tape[at];
+    match command {
         0x56 => point(tape, at),
         0x52 => repeated(tape, at),
-        _ => other(tape, at),
+        _ => other(tape, at, command),
     }
 }

@@ -1,45 +1,33 @@
-// Reading a tape: a lent slice is filled with its points, once the scan has judged it.
+// Reading a tape: a lent slice is filled with its points, once a scan has passed.
 use tape_command::decode;
 use tape_reading::point_of;
 use tape_reading::reading_of;
 use tape_scan::scan;
 use tape_spec::types::Command;
 ghost use mathlib.Core.Path.{_≡_};
-ghost use mathlib.Core.Bool.{false};
-ghost use Prim.Native.Nat.{_+_, _≤_};
-ghost use lib.ListN.{length, replicate};
+ghost use Prim.Native.Nat.{_+_, _≤_, _<_};
+ghost use lib.ListN.{length, drop, replicate};
 ghost use lib.Seq.{sets};
-ghost use Rattle.tape_spec.specs.Tapes.{campaign};
-ghost use Rattle.tape_spec.specs.Reading.{isNone, orEmpty, readingRefusal, filledOr, reading};
+ghost use Rattle.tape_spec.specs.Reading.{readingRefusal, filledOr, reading};
+ghost use Rattle.tape_spec.specs.Decoding.{left, Passed, pointsIn};
 
-// Stores a point n times from a cell on.
-fn repeat(slice: &mut [i32], at: usize, n: usize, v: i32)
-    requires { ⌜ at + n ≤ length (now slice) ⌝ }
-    ensures { λ _. ⌜ now (slice .exit) ≡ sets (now (slice .entry)) at (replicate n v) ⌝ }
-{
-    for i in 0..n {
-        slice[at + i] = v;
-    }
-}
-
-// The same, by a single store where the point stands once, as after a 56.
+// Stores a point in n cells from one on; the first by itself, since most points stand once.
 fn put_points(slice: &mut [i32], at: usize, n: usize, v: i32)
-    requires { ⌜ at + n ≤ length (now slice) ⌝ }
+    requires { ⌜ (0 < n) × (at + n ≤ length (now slice)) ⌝ }
     ensures { λ _. ⌜ now (slice .exit) ≡ sets (now (slice .entry)) at (replicate n v) ⌝ }
 {
-    if n == 1 {
-        slice[at] = v;
-    } else {
-        repeat(slice, at, n, v);
+    slice[at] = v;
+    for i in at + 1..at + n {
+        slice[i] = v;
     }
 }
 
-// Stores the points of a tape that keeps the form.
-fn store(tape: &[u8], slice: &mut [i32])
-    requires { ⌜ (isNone (campaign (now tape)) ≡ false) × (length (orEmpty (campaign (now tape)) .points) ≤ length (now slice)) ⌝ }
-    ensures { λ _. ⌜ now (slice .exit) ≡ filledOr 0 (orEmpty (campaign (now (tape .entry))) .points) (now (slice .entry)) ⌝ }
+// Stores the points from a position on, where the form is kept and no reading is refused.
+fn store(tape: &[u8], start: usize, slice: &mut [i32])
+    requires { ⌜ Passed (left (drop start (now tape))) × (length (pointsIn (left (drop start (now tape)))) ≤ length (now slice)) ⌝ }
+    ensures { λ _. ⌜ now (slice .exit) ≡ filledOr 0 (pointsIn (left (drop start (now (tape .entry))))) (now (slice .entry)) ⌝ }
 {
-    let mut at: usize = 0;
+    let mut at = start;
     let mut done: usize = 0;
     loop {
         match decode(tape, at) {
@@ -53,8 +41,24 @@ fn store(tape: &[u8], slice: &mut [i32])
                 done += 1;
                 at = next;
             }
+            _ => return,
+        }
+    }
+}
+
+// Puts the points of a tape whose scan passed at the start of a slice that has room for them.
+pub fn fill_scanned(tape: &[u8], slice: &mut [i32])
+    requires { ⌜ readingRefusal (now tape) (length (now slice)) ≡ 0 ⌝ }
+    ensures { λ _. ⌜ now (slice .exit) ≡ reading (now (tape .entry)) (now (slice .entry)) ⌝ }
+{
+    let mut at: usize = 0;
+    loop {
+        match decode(tape, at) {
             Command::Axis(_, next) => at = next,
-            Command::Boards(_, next) => at = next,
+            Command::Boards(_, next) => {
+                store(tape, next, slice);
+                return;
+            }
             _ => return,
         }
     }
@@ -72,6 +76,6 @@ pub fn fill(tape: &[u8], slice: &mut [i32]) -> u8
     if (slice.len() as u64) < found.points {
         return 11;
     }
-    store(tape, slice);
+    fill_scanned(tape, slice);
     0
 }

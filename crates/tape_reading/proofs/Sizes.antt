@@ -1,11 +1,11 @@
 -- Sizes: bits without their sign. A larger size is a larger number, so where one is too far all larger ones are; and what a size gives on each scale at its border.
 use Prim.Native.Nat.{ℕ, zero, suc, _+_, _*_, _/_, _%_, _^_, _≤_, _<_}
 use mathlib.Core.Path.{_≡_, refl, sym, ap, _∙_}
+use mathlib.Core.Logic.{inl, inr}
 use native.Mathlib.Nat.{mul-le-mul-left, mul-le-mul-right, mod-lt, le-trans}
 use native.Mathlib.Omega.{arith}
 use borrow.Author.Tests.{ltb-true, ltb-false, eq-eqb, ne-eqb}
 use lib.Dec.{ltb}
-use lib.IntN.{pos}
 use lib.Pow.{pow-pos, pow-mono}
 use Rattle.cube_spec.specs.Checks.{gives, refuses}
 use Rattle.cube_spec.proofs.Sums.{by}
@@ -13,7 +13,7 @@ use Rattle.tape_reading.specs.Nearest.{nearest, signed}
 use Rattle.tape_reading.specs.Computing.{computing}
 use Rattle.tape_reading.specs.Patterns.{negative, field, digits, notFinite, mantissaOf, powerOf, parts}
 use Rattle.tape_reading.specs.Readings.{metre, kilometre, largest, inRange, refusalIn, valueIn, fromBits}
-use Rattle.tape_reading.specs.inner.Taken.{Taken, Refuses}
+use Rattle.tape_reading.specs.inner.Taken.{Taken, Scale, Refuses}
 use Rattle.tape_reading.proofs.Nearest.{nearest-mono}
 use Rattle.tape_reading.proofs.Readings.{in-range, out-of-range}
 
@@ -112,7 +112,7 @@ module _ (b : ℕ) where
   finite scale h = rw (ne-eqb (b % 2 ^ 31 / 2 ^ 23) 255 (λ e. omega arith), parts-size b)
 
   -- whole centimetres
-  pub inside : (scale last w : ℕ) → Taken scale last → b % 2 ^ 31 ≤ last → w ≡ nearest (parts (b % 2 ^ 31) * scale) (2 ^ 149) → gives (signed (negative b) w) ≡ fromBits scale b
+  inside : (scale last w : ℕ) → Taken scale last → b % 2 ^ 31 ≤ last → w ≡ nearest (parts (b % 2 ^ 31) * scale) (2 ^ 149) → gives (signed (negative b) w) ≡ fromBits scale b
   inside scale last w t h e =
       let f = t .bounded in
       let l = t .taken (b % 2 ^ 31) h in
@@ -131,11 +131,35 @@ module _ (b : ℕ) where
     pub no-number-refused : 0x7F800000 ≤ b % 2 ^ 31 → gets 14
     no-number-refused h scale t = ap refusalIn (sym (not-finite scale h))
 
-    -- past the last size no number is given
-    pub none-given : last < b % 2 ^ 31 → (scale : ℕ) → Taken scale last → pos 0 ≡ valueIn (fromBits scale b)
-    none-given h scale t =
-        by (ltb (b % 2 ^ 31) 0x7F800000)
+    -- where nothing is refused, the size is one that is taken
+    size-taken : (scale : ℕ) → Taken scale last → refusalIn (fromBits scale b) ≡ 0 → b % 2 ^ 31 ≤ last
+    size-taken scale t e =
+        by (ltb last (b % 2 ^ 31))
         (λ u.
-        let l = ltb-true (b % 2 ^ 31) 0x7F800000 u in
-        ap valueIn (sym (finite scale l ∙ out-of-range (negative b) (nearest (parts (b % 2 ^ 31) * scale) (2 ^ 149)) (t .far (b % 2 ^ 31) h l))))
-        (λ u. ap valueIn (sym (not-finite scale (ltb-false (b % 2 ^ 31) 0x7F800000 u))))
+        let h = ltb-true last (b % 2 ^ 31) u in
+        by (ltb (b % 2 ^ 31) 0x7F800000)
+        (λ v. let r = far-refused h (ltb-true (b % 2 ^ 31) 0x7F800000 v) scale t in absurd (omega arith))
+        (λ v. let r = no-number-refused (ltb-false (b % 2 ^ 31) 0x7F800000 v) scale t in absurd (omega arith)))
+        (λ u. ltb-false last (b % 2 ^ 31) u)
+
+  -- on either scale, where nothing is refused
+  pub record Inside (scale : ℕ) : Type 0 where
+    pub small : scale ≤ 100000
+    pub bounded : b % 2 ^ 31 ≤ 0x4BA3D70A
+    pub fits : nearest (parts (b % 2 ^ 31) * scale) (2 ^ 149) ≤ largest
+    pub is : signed (negative b) (nearest (parts (b % 2 ^ 31) * scale) (2 ^ 149)) ≡ valueIn (fromBits scale b)
+
+  by-size : (scale last : ℕ) → Taken scale last → refusalIn (fromBits scale b) ≡ 0 → Inside scale
+  by-size scale last t e =
+      let h = size-taken last scale t e in
+      let f = t .bounded in
+      record {
+        small = t .small;
+        bounded = omega arith;
+        fits = t .taken (b % 2 ^ 31) h;
+        is = ap valueIn (inside scale last (nearest (parts (b % 2 ^ 31) * scale) (2 ^ 149)) t h refl);
+      }
+
+  pub passed : (scale : ℕ) → Scale scale → refusalIn (fromBits scale b) ≡ 0 → Inside scale
+  passed scale (inl q) e = rw q (by-size metre 0x4BA3D70A metres-taken (rw q at e))
+  passed scale (inr q) e = rw q (by-size kilometre 0x46A7C5AC kilometres-taken (rw q at e))

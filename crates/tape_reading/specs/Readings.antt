@@ -1,5 +1,7 @@
 -- "A reading arrives as whole centimetres, as metres in single precision or as kilometres in single precision."
 use Prim.Native.Nat.{ℕ, _*_, _^_}
+use mathlib.Core.Path.{_≡_}
+use mathlib.Core.Logic.{_⊎_}
 use lib.Dec.{ltb, eqb}
 use lib.IntN.{ℤ, pos}
 use lib.Ieee.{Float, nan, inf, fin, up, down, binary32, ofBits}
@@ -59,6 +61,10 @@ unfoldable pub readingOf : ℕ → ℕ → Reading
 readingOf command b =
     pick (eqb command 0x4D) (Reading′.Metres (ofBits binary32 b))
     (pick (eqb command 0x4B) (Reading′.Kilometres (ofBits binary32 b)) (Reading′.Centimetres (signed32 b)))
+
+-- the commands of floats
+abbrev pub Floating : ℕ → Type 0
+Floating command = (command ≡ 0x4D) ⊎ (command ≡ 0x4B)
 
 -- the same result from the bits alone (`proofs/Readings.antt`, `from-bits`)
 unfoldable pub fromBits : ℕ → ℕ → Reply ℤ

@@ -1,11 +1,10 @@
 // Readings: the point that each gives, in whole centimetres, from the float's bits. No float is added, multiplied or rounded here.
 ghost use mathlib.Core.Path.{_≡_};
 ghost use Prim.Native.Nat.{_*_, _^_, _<_, _≤_};
-ghost use lib.Ieee.{binary32, ofBits};
 ghost use Rattle.tape_reading.specs.Nearest as Nearest;
 ghost use Rattle.tape_reading.specs.Patterns.{parts};
-ghost use Rattle.tape_reading.specs.Readings.{signed32, readingOf, inCentimetres, centimetresOf, refusalIn, valueIn, fromBits};
-ghost use Rattle.tape_reading.specs.inner.Taken.{Taken, Refuses};
+ghost use Rattle.tape_reading.specs.Readings.{signed32, Floating, readingOf, inCentimetres, centimetresOf, refusalIn, valueIn, fromBits};
+ghost use Rattle.tape_reading.specs.inner.Taken.{Scale, Refuses};
 use types::Reading;
 
 pub mod types;
@@ -38,25 +37,15 @@ pub fn signed(n: u32) -> i32
     !m
 }
 
-// The float whose bits are n; there is one float for all bits that are no number's.
-fn float(n: u32) -> f32
-    ensures { λ r. ⌜ r ≡ ofBits binary32 n ⌝ }
-{
-    if INFINITE < n % SIGN {
-        return 0.0f32 / 0.0f32;
-    }
-    f32::from_bits(n)
-}
-
-// The reading of a command: 4D metres, 4B kilometres, any other whole centimetres.
+// The reading of a float's command that is not refused: its bits are a number's.
 pub fn reading_of(command: u8, n: u32) -> Reading
+    requires { ⌜ Floating command × (refusalIn (centimetresOf (readingOf command n)) ≡ 0) ⌝ }
     ensures { λ r. ⌜ r ≡ readingOf command n ⌝ }
 {
-    match command {
-        0x4D => Reading::Metres(float(n)),
-        0x4B => Reading::Kilometres(float(n)),
-        _ => Reading::Centimetres(signed(n)),
+    if command == 0x4D {
+        return Reading::Metres(f32::from_bits(n));
     }
+    Reading::Kilometres(f32::from_bits(n))
 }
 
 // ---- refusals, by the size alone: where a number is too far, all larger ones are
@@ -124,36 +113,30 @@ fn with_sign(negative: bool, w: u64) -> i32
     v
 }
 
-// The point of a float's bits, 0 for one that is refused.
-fn bits_point(n: u32, scale: u64, last: u32) -> i32
-    requires { ⌜ Taken scale last ⌝ }
+// The point of a float's bits.
+fn bits_point(n: u32, scale: u64) -> i32
+    requires { ⌜ Scale scale × (refusalIn (fromBits scale n) ≡ 0) ⌝ }
     ensures { λ r. ⌜ r ≡ valueIn (fromBits scale n) ⌝ }
 {
-    let size = n % SIGN;
-    if last < size {
-        return 0;
-    }
-    with_sign(SIGN <= n, whole(size, scale))
+    with_sign(SIGN <= n, whole(n % SIGN, scale))
 }
 
-// The point of a float, 0 for one that is refused.
-fn float_point(x: f32, scale: u64, last: u32) -> i32
-    requires { ⌜ Taken scale last ⌝ }
+// The point of a float.
+fn float_point(x: f32, scale: u64) -> i32
+    requires { ⌜ Scale scale × (refusalIn (inCentimetres scale x) ≡ 0) ⌝ }
     ensures { λ r. ⌜ r ≡ valueIn (inCentimetres scale x) ⌝ }
 {
-    if x != x {
-        return 0;
-    }
-    bits_point(f32::to_bits(x), scale, last)
+    bits_point(f32::to_bits(x), scale)
 }
 
-// The point of a reading, 0 for one that is refused.
+// The point of a reading that is not refused.
 pub fn point_of(reading: Reading) -> i32
+    requires { ⌜ refusalIn (centimetresOf reading) ≡ 0 ⌝ }
     ensures { λ r. ⌜ r ≡ valueIn (centimetresOf reading) ⌝ }
 {
     match reading {
         Reading::Centimetres(v) => v,
-        Reading::Metres(x) => float_point(x, METRE, LAST_METRES),
-        Reading::Kilometres(x) => float_point(x, KILOMETRE, LAST_KILOMETRES),
+        Reading::Metres(x) => float_point(x, METRE),
+        Reading::Kilometres(x) => float_point(x, KILOMETRE),
     }
 }

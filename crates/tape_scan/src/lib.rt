@@ -18,7 +18,7 @@ ghost use Rattle.tape_spec.specs.Decoding.{counted};
 
 // A refusal with nothing but zeros.
 fn refused(refusal: u8) -> Scan
-    ensures { λ r. ⌜ r ≡ scannedAs refusal (orEmpty none) ⌝ }
+    ensures { λ r. ⌜ r ≡ scannedAs refusal 0 (orEmpty none) ⌝ }
 {
     let lengths = [0u32; 8];
     Scan {
@@ -27,6 +27,7 @@ fn refused(refusal: u8) -> Scan
         lengths,
         p: 0,
         points: 0,
+        commands: 0,
     }
 }
 
@@ -51,16 +52,19 @@ fn sooner(bad: u8, command: u8, bits: u32) -> u8
     bad
 }
 
-// Counts the points from a position to the end of a tape, and remembers the first refusal of a reading.
-fn count(tape: &[u8], start: usize) -> Count
-    requires { ⌜ length (now tape) ≤ tapeLimit ⌝ }
-    ensures { λ r. ⌜ r ≡ counted 0 0 (commands (drop start (now (tape .entry)))) ⌝ }
+// Counts the points from a position to the end of a tape, and its commands on from those before it; remembers the first refusal of a reading.
+fn count(tape: &[u8], start: usize, before: u64) -> Count
+    requires { ⌜ (length (now tape) ≤ tapeLimit) × (start ≤ length (now tape)) × (before ≤ start) ⌝ }
+    ensures { λ r. ⌜ r ≡ counted 0 before 0 (commands (drop start (now (tape .entry)))) ⌝ }
 {
     let mut points: u64 = 0;
+    let mut read = before;
     let mut bad: u8 = 0;
     let mut at = start;
     loop {
-        match decode(tape, at) {
+        let answer = decode(tape, at);
+        read += 1;
+        match answer {
             Command::Points(n, _, next) => {
                 points += n as u64;
                 at = next;
@@ -75,14 +79,14 @@ fn count(tape: &[u8], start: usize) -> Count
                 if next < tape.len() {
                     return Count::Broken;
                 }
-                return Count::Whole(points, bad);
+                return Count::Whole(points, read, bad);
             }
             _ => return Count::Broken,
         }
     }
 }
 
-// Judges a tape's form and readings and counts what it holds, in one pass.
+// Judges a tape's form and readings and counts what it holds, in one pass: each command is decoded once, and counted there.
 pub fn scan(tape: &[u8]) -> Scan
     ensures { λ r. ⌜ r ≡ scanning (now (tape .entry)) ⌝ }
 {
@@ -91,9 +95,12 @@ pub fn scan(tape: &[u8]) -> Scan
     }
     let mut lengths = [0u32; 8];
     let mut axes: usize = 0;
+    let mut read: u64 = 0;
     let mut at: usize = 0;
     loop {
-        match decode(tape, at) {
+        let answer = decode(tape, at);
+        read += 1;
+        match answer {
             Command::Axis(d, next) => {
                 let changed = put(lengths, axes, d);
                 lengths = changed;
@@ -101,7 +108,7 @@ pub fn scan(tape: &[u8]) -> Scan
                 at = next;
             }
             Command::Boards(p, next) => {
-                let Count::Whole(points, bad) = count(tape, next) else {
+                let Count::Whole(points, commands, bad) = count(tape, next, read) else {
                     return refused(2);
                 };
                 if bad != 0 {
@@ -113,6 +120,7 @@ pub fn scan(tape: &[u8]) -> Scan
                     lengths,
                     p,
                     points,
+                    commands,
                 };
             }
             _ => return refused(2),

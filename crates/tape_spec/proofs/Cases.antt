@@ -11,14 +11,17 @@ use Rattle.tape_spec.specs.Tapes.{axis, boards, points, end}
 use Rattle.tape_spec.specs.Decoding.{placed, nothing, decoding}
 use Rattle.tape_spec.specs.Writing.{written, centimetres, metres, kilometres, logged}
 use Rattle.tape_spec.specs.Reading.{scanRefusal, scanning, readingRefusal, reading}
+use Rattle.tape_spec.specs.declared.types.Scan.{Scan}
 use Rattle.tape_spec.proofs.Scanning.{taken}
+use Rattle.tape_spec.proofs.Listed as Listed
+use Rattle.tape_spec.proofs.Listed.{Scanned}
 
 -- lengths 258 and 3, p 9; −2 cm, 5 cm three times, 0.125 m, −0.375 km, −2^31 cm
 whole : List ℕ
 whole =
     0x41 ∷ 2 ∷ 1 ∷ 0x41 ∷ 3 ∷ 0 ∷ 0x42 ∷ 9 ∷ 0x56 ∷ 254 ∷ 255 ∷ 255 ∷ 255 ∷ 0x52 ∷ 3 ∷ 0 ∷ 5 ∷ 0 ∷ 0 ∷ 0 ∷ 0x4D ∷ 0 ∷ 0 ∷ 0 ∷ 0x3E ∷ 0x4B ∷ 0 ∷ 0 ∷ 0xC0 ∷ 0xBE ∷ 0x56 ∷ 0 ∷ 0 ∷ 0 ∷ 128 ∷ 0x45 ∷ []
 
-scans : scanning whole ≡ taken 2 (258 ∷ 3 ∷ 0 ∷ 0 ∷ 0 ∷ 0 ∷ 0 ∷ 0 ∷ []) 9 7
+scans : scanning whole ≡ taken 2 (258 ∷ 3 ∷ 0 ∷ 0 ∷ 0 ∷ 0 ∷ 0 ∷ 0 ∷ []) 9 7 9
 unfolding computing whole
 scans = refl
 
@@ -52,8 +55,8 @@ unfolding computing whole
 reads = (refl, refl, refl, refl)
 
 -- a tape without a 41 or without points keeps the form; more than eight axes are counted, and the first eight told
-kept : (scanning (0x42 ∷ 255 ∷ 0x45 ∷ []) ≡ taken 0 (replicate 8 0) 255 0)
-    × (scanning (0x41 ∷ 1 ∷ 0 ∷ 0x41 ∷ 2 ∷ 0 ∷ 0x41 ∷ 3 ∷ 0 ∷ 0x41 ∷ 4 ∷ 0 ∷ 0x41 ∷ 5 ∷ 0 ∷ 0x41 ∷ 6 ∷ 0 ∷ 0x41 ∷ 7 ∷ 0 ∷ 0x41 ∷ 8 ∷ 0 ∷ 0x41 ∷ 9 ∷ 0 ∷ 0x42 ∷ 0 ∷ 0x45 ∷ []) ≡ taken 9 (1 ∷ 2 ∷ 3 ∷ 4 ∷ 5 ∷ 6 ∷ 7 ∷ 8 ∷ []) 0 0)
+kept : (scanning (0x42 ∷ 255 ∷ 0x45 ∷ []) ≡ taken 0 (replicate 8 0) 255 0 2)
+    × (scanning (0x41 ∷ 1 ∷ 0 ∷ 0x41 ∷ 2 ∷ 0 ∷ 0x41 ∷ 3 ∷ 0 ∷ 0x41 ∷ 4 ∷ 0 ∷ 0x41 ∷ 5 ∷ 0 ∷ 0x41 ∷ 6 ∷ 0 ∷ 0x41 ∷ 7 ∷ 0 ∷ 0x41 ∷ 8 ∷ 0 ∷ 0x41 ∷ 9 ∷ 0 ∷ 0x42 ∷ 0 ∷ 0x45 ∷ []) ≡ taken 9 (1 ∷ 2 ∷ 3 ∷ 4 ∷ 5 ∷ 6 ∷ 7 ∷ 8 ∷ []) 0 0 11)
 unfolding computing
 kept = (refl, refl)
 
@@ -86,3 +89,17 @@ offends = refl
 lengths-of-tapes : refusals ((0x41 ∷ 2 ∷ 0 ∷ replicate 65533 0x42) ∷ (0x41 ∷ 2 ∷ 0 ∷ replicate 65534 0x42) ∷ []) ≡ 2 ∷ 1 ∷ []
 unfolding computing refusals
 lengths-of-tapes = refl
+
+-- the scans that compare lists
+unfoldable scanned-all : List Scanned → List Scan
+scanned-all [] = []
+scanned-all (s ∷ r) = scanning (s .tape) ∷ scanned-all r
+
+unfoldable listed-scans : List Scanned → List Scan
+listed-scans [] = []
+listed-scans (s ∷ r) =
+    record { refusal = s .refusal; axes = s .axes; lengths = s .lengths; p = s .p; points = s .points; commands = s .commands } ∷ listed-scans r
+
+scans-listed : scanned-all Listed.scans ≡ listed-scans Listed.scans
+unfolding computing Listed.scans scanned-all listed-scans
+scans-listed = refl

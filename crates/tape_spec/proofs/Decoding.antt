@@ -2,6 +2,7 @@
 use Prim.Native.Nat.{ℕ, zero, suc, _+_, _-_, _%_, _≤_, _<_}
 use mathlib.Core.Path.{_≡_, refl, sym, ap, _∙_}
 use mathlib.Core.Bool.{true, false}
+use mathlib.Core.Logic.{inl, inr}
 use mathlib.Core.Option.{Option, none, some}
 use mathlib.Core.List.{List, [], _∷_}
 use native.Mathlib.Omega.{arith}
@@ -13,7 +14,7 @@ use lib.Seq.{drop-cons, drop-drop}
 use Rattle.cube_spec.specs.Bytes.{little}
 use Rattle.cube_spec.proofs.Sums.{by}
 use Rattle.cube_spec.proofs.Naturals.{clash, impossible}
-use Rattle.tape_reading.specs.Readings.{readingOf}
+use Rattle.tape_reading.specs.Readings.{Floating, readingOf}
 use Rattle.tape_spec.specs.Tapes as Tapes
 use Rattle.tape_spec.specs.Tapes.{axis, boards, points, end, First, found, bad, operand, single, repeated, firstOf, prepend, firstThen, commands}
 use Rattle.tape_spec.specs.Decoding.{placed, nothing, told, decoding}
@@ -196,9 +197,9 @@ module _ (l : List ℕ) (at : ℕ) (h : at < length l) where
   unfolding decoding told
   end-told e = rw (at-45 e, back l (at + 1) (at + 1) refl (omega arith))
 
-  pub other-told : (getD l at 0 ≡ 0x41 → ⊥) → (getD l at 0 ≡ 0x42 → ⊥) → single (getD l at 0) ≡ false → (getD l at 0 ≡ 0x52 → ⊥) → (getD l at 0 ≡ 0x45 → ⊥) → nothing ≡ decoding l at
+  pub other-told : (c : ℕ) → getD l at 0 ≡ c → (c ≡ 0x41 → ⊥) → (c ≡ 0x42 → ⊥) → single c ≡ false → (c ≡ 0x52 → ⊥) → (c ≡ 0x45 → ⊥) → nothing ≡ decoding l at
   unfolding decoding told firstOf
-  other-told a b c d e = rw (opened, ne-eqb _ _ a, ne-eqb _ _ b, c, ne-eqb _ _ d, ne-eqb _ _ e)
+  other-told c q a b s d e = rw (opened, q, ne-eqb c _ a, ne-eqb c _ b, s, ne-eqb c _ d, ne-eqb c _ e)
 
 pub past-told : (l : List ℕ) (at : ℕ) → length l ≤ at → nothing ≡ decoding l at
 unfolding decoding told firstOf
@@ -209,9 +210,13 @@ pub is-56 : (c : ℕ) → c ≡ 0x56 → single c ≡ true
 unfolding single
 is-56 c e = rw e
 
-pub odd-float : (c : ℕ) → 0x4B ≤ c → c ≤ 0x4D → (c % 2 ≡ 0 → ⊥) → single c ≡ true
+pub is-float : (c : ℕ) → Floating c → single c ≡ true
 unfolding single
-odd-float c a b h = by (eqb c 0x4B) (λ t. rw (eqb-true c 0x4B t)) (λ t. rw (go t))
+is-float c (inl e) = rw e
+is-float c (inr e) = rw e
+
+pub odd-float : (c : ℕ) → 0x4B ≤ c → c ≤ 0x4D → (c % 2 ≡ 0 → ⊥) → Floating c
+odd-float c a b h = by (eqb c 0x4B) (λ t. inr (eqb-true c 0x4B t)) (λ t. inl (go t))
   where
     go : eqb c 0x4B ≡ false → c ≡ 0x4D
     go t = let n = eqb-false c 0x4B t in by (eqb c 0x4C) (λ u. absurd (h (rw (eqb-true c 0x4C u)))) (λ u. let m = eqb-false c 0x4C u in omega (arith, n, m))

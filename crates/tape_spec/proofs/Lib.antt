@@ -5,4 +5,5 @@ pub mod Scanning
 pub mod Filling
 pub mod Refusing
 pub mod Writing
+pub mod Listed
 pub mod Cases

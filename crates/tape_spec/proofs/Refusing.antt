@@ -1,30 +1,28 @@
 -- Laws of the reader's refusals: the scan's come first, then the slice's.
 use Prim.Native.Nat.{ℕ, zero, suc, _≤_, _<_}
 use mathlib.Core.Path.{_≡_, refl, sym, _∙_}
-use mathlib.Core.Bool.{Bool, true, false}
 use mathlib.Core.List.{List, [], _∷_, _++_}
 use native.Mathlib.Omega.{arith}
-use borrow.Author.Tests.{lt-ltb, le-ltb}
+use borrow.Author.Tests.{lt-ltb, le-ltb, ltb-false}
 use lib.ListN.{length}
 use lib.IntN.{ℤ}
-use Rattle.cube_spec.specs.Boxes.{pick}
-use Rattle.cube_spec.specs.Checks.{Check, first}
-use Rattle.cube_spec.proofs.Dues.{Numbered, first-due, first-passed, none-both}
+use Rattle.cube_spec.specs.Checks.{Check, check, first}
+use Rattle.cube_spec.proofs.Dues.{Numbered, numbered-both, first-due, first-passed, none-first, none-both}
 use Rattle.tape_spec.specs.declared.types.Scan.{Scan}
-use Rattle.tape_spec.specs.Tapes.{Entry, form, Campaign, campaign}
-use Rattle.tape_spec.specs.Reading.{tooLong, isNone, orEmpty, entriesIn, entryChecks, scanChecks, scanRefusal, scannedAs, scanning, shortSlice, readingChecks, readingRefusal, filledOr, reading}
+use Rattle.tape_spec.specs.Tapes.{commands, Entry, form, Campaign, campaign}
+use Rattle.tape_spec.specs.Reading.{orEmpty, entriesIn, entryChecks, scanChecks, scanRefusal, commandCount, scannedAs, scanning, shortSlice, readingChecks, readingRefusal, filledOr, reading}
 
-refusal-is : (n : ℕ) (f : Campaign) → scannedAs n f .refusal ≡ n
+refusal-is : (n m : ℕ) (f : Campaign) → scannedAs n m f .refusal ≡ n
 unfolding scannedAs
-refusal-is zero f = refl
-refusal-is (suc n) f = refl
+refusal-is zero m f = refl
+refusal-is (suc n) m f = refl
 
-points-are : (n : ℕ) (f : Campaign) → n ≡ 0 → scannedAs n f .points ≡ length (f .points)
+points-are : (n m : ℕ) (f : Campaign) → n ≡ 0 → scannedAs n m f .points ≡ length (f .points)
 unfolding scannedAs
-points-are zero f e = refl
-points-are (suc n) f e = absurd (omega arith)
+points-are zero m f e = refl
+points-are (suc n) m f e = absurd (omega arith)
 
-left-alone : (n : ℕ) (p s : List ℤ) → (n ≡ 0 → ⊥) → filledOr n p s ≡ s
+pub left-alone : (n : ℕ) (p s : List ℤ) → (n ≡ 0 → ⊥) → filledOr n p s ≡ s
 unfolding filledOr
 left-alone zero p s h = absurd (h refl)
 left-alone (suc n) p s h = refl
@@ -38,6 +36,10 @@ pub numbered : (tape : List ℕ) → Numbered (scanChecks tape)
 unfolding scanChecks
 numbered tape = (omega arith, (omega arith, entries-numbered (entriesIn (form tape))))
 
+pub reading-numbered : (tape : List ℕ) (n : ℕ) → Numbered (readingChecks tape n)
+unfolding readingChecks
+reading-numbered tape n = numbered-both (scanChecks tape) _ (numbered tape) (omega arith, tt)
+
 -- of the scan's checks and others after them none is due: then none of either is
 pub none-of-scan : (tape : List ℕ) (r : List Check) → first (scanChecks tape ++ r) ≡ 0 → (first (scanChecks tape) ≡ 0) × (first r ≡ 0)
 none-of-scan tape r = none-both (scanChecks tape) r (numbered tape)
@@ -45,15 +47,22 @@ none-of-scan tape r = none-both (scanChecks tape) r (numbered tape)
 pub after-scan : (tape : List ℕ) (r : List Check) → first (scanChecks tape) ≡ 0 → first (scanChecks tape ++ r) ≡ first r
 after-scan tape r h = first-passed (scanChecks tape) r (numbered tape) h
 
-kept-form : (a b : Bool) (x : ℕ) → pick a 1 (pick b 2 x) ≡ 0 → b ≡ false
-kept-form true b x e = absurd (omega arith)
-kept-form false true x e = absurd (omega arith)
-kept-form false false x e = refl
+-- what is read where nothing is refused
+module _ (tape : List ℕ) (s : List ℤ) (h : readingRefusal tape (length s) ≡ 0) where
+  pub fills : filledOr 0 (orEmpty (campaign tape) .points) s ≡ reading tape s
+  unfolding reading
+  fills = rw h
+
+  pub passes : (scanRefusal tape ≡ 0) × (length (orEmpty (campaign tape) .points) ≤ length s)
+  unfolding scanRefusal shortSlice
+  passes =
+      let n = none-of-scan tape (check 11 (shortSlice (orEmpty (campaign tape)) (length s)) ∷ []) (unfold readingRefusal readingChecks in h) in
+      (n .0, ltb-false (length s) _ (none-first _ [] (omega arith) (n .1) .0))
 
 module _ (tape : List ℕ) (f : Scan) (e : f ≡ scanning tape) where
   pub refusal : f .refusal ≡ scanRefusal tape
   unfolding scanning
-  refusal = rw e (refusal-is (scanRefusal tape) (orEmpty (campaign tape)))
+  refusal = rw e (refusal-is (scanRefusal tape) (commandCount (commands tape)) (orEmpty (campaign tape)))
 
   -- where the scan refuses, no later check counts
   pub scan-first : (f .refusal ≡ 0 → ⊥) → (r : List Check) → f .refusal ≡ first (scanChecks tape ++ r)
@@ -72,22 +81,14 @@ module _ (tape : List ℕ) (f : Scan) (e : f ≡ scanning tape) where
     unfolding scanRefusal
     scan-passed r = after-scan tape r (sym refusal ∙ h)
 
-    form-kept : isNone (campaign tape) ≡ false
-    unfolding scanRefusal scanChecks first
-    form-kept = kept-form (tooLong tape) (isNone (campaign tape)) _ (sym refusal ∙ h)
-
     counts : f .points ≡ length (orEmpty (campaign tape) .points)
     unfolding scanning
-    counts = rw e (points-are (scanRefusal tape) (orEmpty (campaign tape)) (sym refusal ∙ h))
+    counts = rw e (points-are (scanRefusal tape) (commandCount (commands tape)) (orEmpty (campaign tape)) (sym refusal ∙ h))
 
-    pub stores : (n : ℕ) → f .points ≤ n → (isNone (campaign tape) ≡ false) × (length (orEmpty (campaign tape) .points) ≤ n)
-    stores n l = (form-kept, rw counts at l)
+    pub fits : (n : ℕ) → f .points ≤ n → readingRefusal tape n ≡ 0
+    unfolding readingRefusal readingChecks first shortSlice
+    fits n l = rw (scan-passed _, le-ltb n _ (rw counts at l))
 
     pub short : (s : List ℤ) → length s < f .points → (11 ≡ readingRefusal tape (length s)) × (s ≡ reading tape s)
     unfolding reading readingRefusal readingChecks first shortSlice filledOr
     short s l = rw (scan-passed _, lt-ltb (length s) _ (rw counts at l)) (refl, refl)
-
-    pub long : (s w : List ℤ) → f .points ≤ length s → w ≡ filledOr 0 (orEmpty (campaign tape) .points) s
-        → (0 ≡ readingRefusal tape (length s)) × (w ≡ reading tape s)
-    unfolding reading readingRefusal readingChecks first shortSlice
-    long s w l q = rw (scan-passed _, le-ltb (length s) _ (rw counts at l)) (refl, q)

@@ -2,11 +2,11 @@
 use Prim.Native.Nat.{ℕ, zero, suc, _+_, _*_, _/_, _^_, _≤_, _<_}
 use mathlib.Core.Path.{_≡_, refl, sym, ap, _∙_}
 use mathlib.Core.Option.{Option, none, some}
-use mathlib.Core.List.{List, [], _∷_, _++_, append-assoc}
+use mathlib.Core.List.{List, [], _∷_, _++_, map, append-assoc}
 use native.Mathlib.Omega.{arith}
 use borrow.Author.Tests.{le-ltb}
 use lib.Dec.{ltb}
-use lib.ListN.{length, drop, replicate}
+use lib.ListN.{length, drop, replicate, length-append, length-map}
 use lib.IntN.{ℤ}
 use mir.Syntax.{w32}
 use mir.Val.{SFits, ofZ}
@@ -18,7 +18,8 @@ use Rattle.tape_reading.specs.declared.types.Reading.{Reading}
 use Rattle.tape_reading.specs.declared.types.Reading.the-variants as Reading′
 use Rattle.tape_reading.specs.Readings.{signed32, readingOf, centimetresOf, valueIn}
 use Rattle.tape_spec.specs.Tapes.{Command, axis, boards, points, end, First, found, operand, single, repeated, firstOf, prepend, firstThen, commands, Entry, Form, withEntry, withLength, withBoards, entriesOf, formOf, formIn, form, pointsOf, Campaign, asCampaign, campaign}
-use Rattle.tape_spec.specs.Reading.{tooLong, entryChecks, scanChecks, scanRefusal, scannedAs, scanning, shortSlice, readingChecks, readingRefusal, filledOr, reading}
+use Rattle.tape_spec.specs.Reading.{tooLong, entryChecks, scanChecks, scanRefusal, commandCount, scannedAs, scanning, shortSlice, readingChecks, readingRefusal, filledOr, reading}
+use Rattle.tape_spec.specs.Decoding.{entriesFrom}
 use Rattle.tape_spec.specs.Writing.{bytes, axisCommand, boardsCommand, pointCommand, repeatCommand, endCommand, each, headed, written, Logged, centimetres, metres, kilometres, loggedCommand, loggedReading, logged, Every}
 use Rattle.tape_spec.proofs.Commands.{commands-none, commands-next}
 use Rattle.tape_spec.proofs.Refusing.{after-scan}
@@ -104,19 +105,14 @@ abbrev pub prependAll : List Command → Option (List Command) → Option (List 
 prependAll [] o = o
 prependAll (c ∷ cs) o = prepend c (prependAll cs o)
 
--- f of each element
-abbrev pub mapped : {A : Type 0} → (A → Command) → List A → List Command
-mapped f [] = []
-mapped f (x ∷ l) = f x ∷ mapped f l
-
 reads-each : {A : Type 0} (P : A → Type 0) (f : A → List ℕ) (g : A → Command) → ((x : A) (r : List ℕ) → P x → commands (f x ++ r) ≡ prepend (g x) (commands r))
-    → (l : List A) (r : List ℕ) → Every P l → commands (each f l ++ r) ≡ prependAll (mapped g l) (commands r)
+    → (l : List A) (r : List ℕ) → Every P l → commands (each f l ++ r) ≡ prependAll (map g l) (commands r)
 unfolding each
 reads-each P f g h [] r k = refl
 reads-each P f g h (x ∷ l) r k = rw (append-assoc (f x) (each f l) r, h x (each f l ++ r) (k .0)) (ap (prepend (g x)) (reads-each P f g h l r (k .1)))
 
 -- the 41s, the 42, and then whatever follows it
-reads-headed : (ds : List ℕ) (p : ℕ) (l : List ℕ) → Every (λ d. d < 2 ^ 16) ds → commands (headed ds p l) ≡ prependAll (mapped axis ds) (prepend (boards p) (commands l))
+reads-headed : (ds : List ℕ) (p : ℕ) (l : List ℕ) → Every (λ d. d < 2 ^ 16) ds → commands (headed ds p l) ≡ prependAll (map axis ds) (prepend (boards p) (commands l))
 unfolding headed
 reads-headed ds p l h = rw (reads-each (λ d. d < 2 ^ 16) axisCommand axis (λ d r l. reads-axis d r l) ds (boardsCommand p ++ l) h, reads-boards p l)
 
@@ -124,12 +120,12 @@ reads-headed ds p l h = rw (reads-each (λ d. d < 2 ^ 16) axisCommand axis (λ d
 abbrev once : Logged → Command
 once x = points 1 (loggedReading x)
 
-reads-all : (xs : List Logged) (l : List ℕ) → Every LoggedFits xs → commands (each loggedCommand xs ++ l) ≡ prependAll (mapped once xs) (commands l)
+reads-all : (xs : List Logged) (l : List ℕ) → Every LoggedFits xs → commands (each loggedCommand xs ++ l) ≡ prependAll (map once xs) (commands l)
 reads-all xs l k = reads-each LoggedFits loggedCommand once (λ x r f. reads-logged x r f) xs l k
 
 -- the tape that is written has a 41 for each length, a 42, a command for each reading and a 45
 reads-tape : (ds : List ℕ) (p : ℕ) (xs : List Logged) → Every (λ d. d < 2 ^ 16) ds → Every LoggedFits xs
-    → commands (logged ds p xs) ≡ prependAll (mapped axis ds) (prepend (boards p) (prependAll (mapped once xs) (some (end ∷ []))))
+    → commands (logged ds p xs) ≡ prependAll (map axis ds) (prepend (boards p) (prependAll (map once xs) (some (end ∷ []))))
 unfolding logged
 reads-tape ds p xs h k = rw (reads-headed ds p (each loggedCommand xs ++ endCommand) h, reads-all xs endCommand k, reads-end)
 
@@ -144,13 +140,13 @@ abbrev pub entriesFor : List Logged → List Entry
 entriesFor [] = []
 entriesFor (x ∷ xs) = record { times = 1; reading = loggedReading x } ∷ entriesFor xs
 
-holds-entries : (xs : List Logged) → entriesOf (mapped once xs ++ (end ∷ [])) ≡ some (entriesFor xs)
+holds-entries : (xs : List Logged) → entriesOf (map once xs ++ (end ∷ [])) ≡ some (entriesFor xs)
 unfolding entriesOf
 holds-entries [] = refl
 holds-entries (x ∷ xs) = rw (holds-entries xs)
 
 holds-lengths : (ds : List ℕ) (p : ℕ) (cs : List Command) (es : List Entry) → entriesOf cs ≡ some es
-    → formOf (mapped axis ds ++ (boards p ∷ cs)) ≡ some (record { lengths = ds; p = p; entries = es })
+    → formOf (map axis ds ++ (boards p ∷ cs)) ≡ some (record { lengths = ds; p = p; entries = es })
 unfolding formOf
 holds-lengths [] p cs es e = rw e
 holds-lengths (d ∷ ds) p cs es e = rw (holds-lengths ds p cs es e)
@@ -160,9 +156,19 @@ module _ (ds : List ℕ) (p : ℕ) (xs : List Logged) (h : Every (λ d. d < 2 ^ 
   pub says : form (logged ds p xs) ≡ some (record { lengths = ds; p = p; entries = entriesFor xs })
   unfolding form
   says =
-      let m = mapped once xs in
-      rw (reads-tape ds p xs h k, prepend-some m (end ∷ []), prepend-some (mapped axis ds) (boards p ∷ (m ++ (end ∷ []))))
+      let m = map once xs in
+      rw (reads-tape ds p xs h k, prepend-some m (end ∷ []), prepend-some (map axis ds) (boards p ∷ (m ++ (end ∷ []))))
       (holds-lengths ds p (m ++ (end ∷ [])) (entriesFor xs) (holds-entries xs))
+
+  -- a command for each length and each reading, the 42 and the 45
+  pub counts-logged : commandCount (commands (logged ds p xs)) ≡ length ds + length xs + 2
+  counts-logged =
+      let m = map once xs in
+      let a = length-append (map axis ds) (boards p ∷ (m ++ (end ∷ []))) in
+      let b = length-append m (end ∷ []) in
+      let c = length-map ds axis in
+      let d = length-map xs once in
+      rw (reads-tape ds p xs h k, prepend-some m (end ∷ []), prepend-some (map axis ds) (boards p ∷ (m ++ (end ∷ [])))) (omega arith)
 
   -- so the first of them that is refused decides, if the tape is within the limit
   pub judges-logged : length (logged ds p xs) ≤ tapeLimit → scanRefusal (logged ds p xs) ≡ first (entryChecks (entriesFor xs))
@@ -181,8 +187,7 @@ module _ (ds : List ℕ) (p : ℕ) (xs : List Logged) (h : Every (λ d. d < 2 ^ 
 -- ---- whole centimetres: a 56 for each point
 
 abbrev whole-log : List ℤ → List Logged
-whole-log [] = []
-whole-log (v ∷ vs) = centimetres v ∷ whole-log vs
+whole-log vs = map centimetres vs
 
 each-whole : (vs : List ℤ) → each pointCommand vs ≡ each loggedCommand (whole-log vs)
 unfolding each loggedCommand
@@ -224,9 +229,13 @@ module _ (ds : List ℕ) (p : ℕ) (vs : List ℤ) (h : Every (λ d. d < 2 ^ 16)
     unfolding reading readingRefusal readingChecks first shortSlice filledOr
     reads-written s l = rw (after-scan (written ds p vs) _ passes, holds, le-ltb (length s) (length vs) l) (refl, refl)
 
-    pub scans-written : scanning (written ds p vs) ≡ record { refusal = 0; axes = length ds; lengths = padded ds; p = p; points = length vs }
+    pub scans-written : scanning (written ds p vs) ≡ record { refusal = 0; axes = length ds; lengths = padded ds; p = p; points = length vs; commands = length ds + length vs + 2 }
     unfolding scanning scanRefusal scannedAs
-    scans-written = rw (passes, holds)
+    scans-written =
+        let c = counts-logged ds p (whole-log vs) h (whole-fits vs k) in
+        let w = length-map vs centimetres in
+        let n : commandCount (commands (logged ds p (whole-log vs))) ≡ length ds + length vs + 2 = omega arith in
+        rw (passes, holds, as-logged ds p vs, n)
 
 -- ---- a 52 of count n means what n 56s mean, among the points and whatever follows
 
@@ -236,8 +245,7 @@ valued none = none
 valued (some es) = some (pointsOf es)
 
 abbrev pub pointsLeft : Option (List Command) → Option (List ℤ)
-pointsLeft none = none
-pointsLeft (some cs) = valued (entriesOf cs)
+pointsLeft o = valued (entriesFrom o)
 
 abbrev behind : List ℤ → Option (List ℤ) → Option (List ℤ)
 behind vs none = none
@@ -271,7 +279,7 @@ same-fits : (n : ℕ) (v : ℤ) → SFits w32 v → Every (SFits w32) (replicate
 same-fits zero v f = tt
 same-fits (suc n) v f = (f, same-fits n v f)
 
-same-mapped : (n : ℕ) (v : ℤ) → mapped (λ v. points 1 (Reading′.Centimetres v)) (replicate n v) ≡ replicate n (points 1 (Reading′.Centimetres v))
+same-mapped : (n : ℕ) (v : ℤ) → map (λ v. points 1 (Reading′.Centimetres v)) (replicate n v) ≡ replicate n (points 1 (Reading′.Centimetres v))
 same-mapped zero v = refl
 same-mapped (suc n) v = ap (λ l. points 1 (Reading′.Centimetres v) ∷ l) (same-mapped n v)
 
@@ -316,16 +324,16 @@ same-axis d a c e = entered a ∙ ap (longer d) e ∙ sym (entered c)
     entered (some cs) = by-form (formOf cs)
 
 same-axes : (ds : List ℕ) (a c : Option (List Command)) → asCampaign (formIn a) ≡ asCampaign (formIn c)
-    → asCampaign (formIn (prependAll (mapped axis ds) a)) ≡ asCampaign (formIn (prependAll (mapped axis ds) c))
+    → asCampaign (formIn (prependAll (map axis ds) a)) ≡ asCampaign (formIn (prependAll (map axis ds) c))
 same-axes [] a c e = e
-same-axes (d ∷ ds) a c e = same-axis d (prependAll (mapped axis ds) a) (prependAll (mapped axis ds) c) (same-axes ds a c e)
+same-axes (d ∷ ds) a c e = same-axis d (prependAll (map axis ds) a) (prependAll (map axis ds) c) (same-axes ds a c e)
 
-same-points : (xs : List Logged) (a c : Option (List Command)) → pointsLeft a ≡ pointsLeft c → pointsLeft (prependAll (mapped once xs) a) ≡ pointsLeft (prependAll (mapped once xs) c)
+same-points : (xs : List Logged) (a c : Option (List Command)) → pointsLeft a ≡ pointsLeft c → pointsLeft (prependAll (map once xs) a) ≡ pointsLeft (prependAll (map once xs) c)
 same-points [] a c e = e
 same-points (x ∷ xs) a c e =
-    repeat-left 1 (loggedReading x) (prependAll (mapped once xs) a)
+    repeat-left 1 (loggedReading x) (prependAll (map once xs) a)
     ∙ ap (behind (valueIn (centimetresOf (loggedReading x)) ∷ [])) (same-points xs a c e)
-    ∙ sym (repeat-left 1 (loggedReading x) (prependAll (mapped once xs) c))
+    ∙ sym (repeat-left 1 (loggedReading x) (prependAll (map once xs) c))
 
 -- on a whole tape, after readings of every kind, whatever follows
 pub repeats-on-tape : (ds : List ℕ) (p : ℕ) (xs : List Logged) (n : ℕ) (v : ℤ) (l : List ℕ) → Every (λ d. d < 2 ^ 16) ds → Every LoggedFits xs → 0 < n → n < 2 ^ 16 → SFits w32 v
@@ -334,8 +342,8 @@ unfolding campaign form
 repeats-on-tape ds p xs n v l h k z b f =
     let x = commands (repeatCommand n v ++ l) in
     let y = commands (each pointCommand (replicate n v) ++ l) in
-    let a = prependAll (mapped once xs) x in
-    let c = prependAll (mapped once xs) y in
+    let a = prependAll (map once xs) x in
+    let c = prependAll (map once xs) y in
     rw (
       reads-headed ds p (each loggedCommand xs ++ (repeatCommand n v ++ l)) h,
       reads-headed ds p (each loggedCommand xs ++ (each pointCommand (replicate n v) ++ l)) h,

@@ -10,7 +10,7 @@ use Rattle.cube_spec.specs.Limits.{tapeLimit, padded}
 use Rattle.cube_spec.specs.Checks.{Check, check, first}
 use Rattle.tape_reading.specs.Readings.{centimetresOf, refusalIn}
 use Rattle.tape_spec.specs.declared.types.Scan.{Scan}
-use Rattle.tape_spec.specs.Tapes.{Entry, Form, form, Campaign, campaign}
+use Rattle.tape_spec.specs.Tapes.{Command, commands, Entry, Form, form, Campaign, campaign}
 
 -- 1. "The tape is over 65,536 bytes."
 unfoldable pub tooLong : List ℕ → Bool
@@ -46,13 +46,20 @@ scanChecks tape = check 1 (tooLong tape) ∷ check 2 (isNone (campaign tape)) �
 unfoldable pub scanRefusal : List ℕ → ℕ
 scanRefusal tape = first (scanChecks tape)
 
-unfoldable pub scannedAs : ℕ → Campaign → Scan
-scannedAs zero c = record { refusal = 0; axes = length (c .lengths); lengths = padded (c .lengths); p = c .p; points = length (c .points) }
-scannedAs (suc n) c = record { refusal = suc n; axes = 0; lengths = padded []; p = 0; points = 0 }
+-- "the number of commands read, which is the number that the tape has": 41s, the 42, points and the 45
+abbrev pub commandCount : Option (List Command) → ℕ
+commandCount none = 0
+commandCount (some cs) = length cs
 
--- how many axes the tape names, which can pass the limit, the first lengths, p, and how many points it holds, a 52 counting as often as it repeats
+-- m commands and a campaign, or a refusal
+unfoldable pub scannedAs : ℕ → ℕ → Campaign → Scan
+scannedAs zero m c =
+    record { refusal = 0; axes = length (c .lengths); lengths = padded (c .lengths); p = c .p; points = length (c .points); commands = m }
+scannedAs (suc n) m c = record { refusal = suc n; axes = 0; lengths = padded []; p = 0; points = 0; commands = 0 }
+
+-- how many axes the tape names, which can pass the limit, the first lengths, p, "the number of points, a 52 counting as often as it repeats", and of commands
 unfoldable pub scanning : List ℕ → Scan
-scanning tape = scannedAs (scanRefusal tape) (orEmpty (campaign tape))
+scanning tape = scannedAs (scanRefusal tape) (commandCount (commands tape)) (orEmpty (campaign tape))
 
 -- ---- reading: the points
 

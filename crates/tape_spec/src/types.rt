@@ -1,11 +1,12 @@
-// What one scan of a tape tells: refusal 0 with how many axes the tape names, the first eight lengths, p, and how many
-// points it holds; or the refusal with nothing but zeros.
+// What one scan of a tape tells: refusal 0 with how many axes the tape names, the first eight lengths, p, how many points
+// it holds and how many commands it has; or the refusal with nothing but zeros.
 pub struct Scan {
     pub refusal: u8,
     pub axes: u32,
     pub lengths: [u32; 8],
     pub p: u8,
     pub points: u64,
+    pub commands: u64,
 }
 
 // The command at a position of a tape. The last number of each case is the position after the command.
@@ -24,8 +25,9 @@ pub enum Command {
     Bad,
 }
 
-// How many points the rest of a tape holds, and the first refusal of a reading, 0 for none; if it keeps the form.
+// How many points the rest of a tape holds, how many commands there were to its end, and the first refusal of a reading, 0
+// for none; if it keeps the form.
 pub enum Count {
-    Whole(u64, u8),
+    Whole(u64, u64, u8),
     Broken,
 }

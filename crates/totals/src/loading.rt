@@ -8,7 +8,7 @@ ghost use Rattle.totals_line.specs.Standing.{campaignOf};
 ghost use Rattle.totals_group.specs.Grouped.{Small};
 use plan_spec::types::Planned;
 use run_check::points_of;
-use tape_fill::fill;
+use tape_fill::fill_scanned;
 
 // Reads every point, which fits its type.
 pub fn bounded(points: &[i32])
@@ -21,7 +21,7 @@ pub fn bounded(points: &[i32])
     }
 }
 
-// Puts the points at the start of the slice, and gives how many there are; none of a tape that is refused.
+// Puts the points at the start of the slice, and gives how many there are; none of a tape that is refused. Judging has scanned the tape.
 pub fn load(tape: &[u8], judged: Planned, points: &mut [i32]) -> usize
     requires { ⌜ (judged ≡ judging (now tape)) × (length (now points) ≡ 8192) ⌝ }
     ensures { λ r. ⌜ (r ≤ length (now (points .exit))) × (judged .refusal ≡ 0 → (take r (now (points .exit)) ≡ campaignOf (now (tape .entry)) .points) × (now (points .exit) ≡ reading (now (tape .entry)) (now (points .entry))))
@@ -30,6 +30,6 @@ pub fn load(tape: &[u8], judged: Planned, points: &mut [i32]) -> usize
     if judged.refusal != 0 {
         return 0;
     }
-    fill(tape, points);
+    fill_scanned(tape, points);
     points_of(judged.plan) as usize
 }

@@ -20,9 +20,9 @@ use Rattle.plan_spec.proofs.Accepting.{planning-accepted, take-padded, padded-l
 use Rattle.plan_spec.proofs.Answering.{too-many, refusal-of, plan-of}
 use Rattle.plan_spec.proofs.Demand.{plan-sound}
 use Rattle.cube_spec.proofs.Dues.{Numbered, first-due, first-passed}
-use Rattle.tape_spec.specs.Tapes.{Campaign, campaign}
+use Rattle.tape_spec.specs.Tapes.{commands, Campaign, campaign}
 use Rattle.tape_spec.specs.declared.types.Scan.{Scan}
-use Rattle.tape_spec.specs.Reading.{orEmpty, scanRefusal, scannedAs, scanning}
+use Rattle.tape_spec.specs.Reading.{orEmpty, scanRefusal, commandCount, scannedAs, scanning}
 use Rattle.tape_spec.proofs.Refusing.{scan-first, scan-passed}
 use Rattle.run_spec.specs.Entries.{badArray, workCells}
 use Rattle.report_spec.specs.Printed.{planFor, tooLarge, programChecks, programRefusal}
@@ -36,10 +36,10 @@ record Tells (f : Scan) (c : Campaign) : Type 0 where
   p : f .p ≡ c .p
   points : f .points ≡ length (c .points)
 
-tells : (n : ℕ) (c : Campaign) (f : Scan) → f ≡ scannedAs n c → f .refusal ≡ 0 → Tells f c
+tells : (n m : ℕ) (c : Campaign) (f : Scan) → f ≡ scannedAs n m c → f .refusal ≡ 0 → Tells f c
 unfolding scannedAs
-tells zero c f e h = record { axes = ap (λ f. f .axes) e; lengths = ap (λ f. f .lengths) e; p = ap (λ f. f .p) e; points = ap (λ f. f .points) e }
-tells (suc n) c f e h = absurd (let k : f .refusal ≡ suc n = ap (λ f. f .refusal) e in omega arith)
+tells zero m c f e h = record { axes = ap (λ f. f .axes) e; lengths = ap (λ f. f .lengths) e; p = ap (λ f. f .p) e; points = ap (λ f. f .points) e }
+tells (suc n) m c f e h = absurd (let k : f .refusal ≡ suc n = ap (λ f. f .refusal) e in omega arith)
 
 not-three : _≡_ {A = ℕ} 3 0 → ⊥
 not-three e = omega arith
@@ -67,7 +67,7 @@ module _ (tape : List ℕ) (f : Scan) (e : f ≡ scanning tape) where
 
   module _ (h : f .refusal ≡ 0) where
     told : Tells f c
-    told = tells (scanRefusal tape) c f (e ∙ (unfold scanning in refl)) h
+    told = tells (scanRefusal tape) (commandCount (commands tape)) c f (e ∙ (unfold scanning in refl)) h
 
     passed-scan : programRefusal tape ≡ first (planningChecks (c .lengths) (c .p) ++ counts)
     unfolding programRefusal programChecks

@@ -26,7 +26,7 @@ use Rattle.cube_spec.proofs.Naturals.{clash}
 use Rattle.cube_spec.proofs.Dues.{none-first, none-both}
 use Rattle.tape_spec.specs.Tapes.{Campaign, campaign}
 use Rattle.tape_spec.specs.Reading.{orEmpty, scanChecks, shortSlice, readingChecks, readingRefusal, filledOr, reading}
-use Rattle.tape_spec.proofs.Refusing.{none-of-scan, after-scan}
+use Rattle.tape_spec.proofs.Refusing.{none-of-scan, after-scan, fills}
 use Rattle.run_spec.specs.Entries.{badArray, workCells}
 use Rattle.report_spec.specs.Printed.{planFor, tooLarge, programChecks, programRefusal}
 use Rattle.totals_check.specs.Judging.{judging}
@@ -106,14 +106,19 @@ module _ (tape : List ℕ) (judged : Planned) (e : judged ≡ judging tape) wher
     pub area-few : workCells (listsOf (judged .plan)) ≤ 8192
     area-few = rw lists-are (ltb-false programLimit (workCells (planFor c)) (large .1))
 
+    -- what filling asks for
+    pub fillable : (n : ℕ) → n ≡ 8192 → readingRefusal tape n ≡ 0
+    unfolding readingRefusal readingChecks first shortSlice
+    fillable n e =
+        let f = points-few in
+        let s : ltb n (length (c .points)) ≡ false = le-ltb n (length (c .points)) (omega arith) in
+        rw (after-scan tape _ (scanned .0), s)
+
     -- filling puts the points at the start
     module _ (old now : List ℤ) (room : length old ≡ 8192) (filled : now ≡ reading tape old) where
       whole : now ≡ c .points ++ drop (length (c .points)) old
-      unfolding reading readingRefusal readingChecks first shortSlice filledOr
-      whole =
-          let f = points-few in
-          let s : ltb (length old) (length (c .points)) ≡ false = le-ltb (length old) (length (c .points)) (omega arith) in
-          filled ∙ rw (after-scan tape _ (scanned .0), s) refl
+      unfolding filledOr
+      whole = filled ∙ sym (fills tape old (fillable (length old) room))
 
       module _ (n : ℕ) (k : n ≡ points (listsOf (judged .plan) .lengths)) where
         pub loaded : take n now ≡ c .points

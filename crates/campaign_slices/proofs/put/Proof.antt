@@ -10,7 +10,7 @@ use Rattle.campaign_slices.proofs.put.Tie as tie
 use Rattle.campaign_slices.proofs.put.Statement.{statement}
 
 abbrev Inv-loop : tie.InvT-loop
-Inv-loop out₀ lengths i₀ out i = (i ≤ 8) × (length out ≡ length out₀) × (out ≡ sets out₀ 3 (take i lengths))
+Inv-loop out₀ lengths i₀ out i = (i ≤ 8) × (length out ≡ length out₀) × (out ≡ sets out₀ 4 (take i lengths))
 
 abbrev μ-loop : tie.MeasureT-loop
 μ-loop out₀ lengths i₀ out i = 8 - i
@@ -46,7 +46,7 @@ loop-again : tie.Need-loop-again Inv-loop μ-loop
 loop-again c =
     let s = c .before .before in
     let e : length (s .args .t2) ≡ 8 = s .good .1 .0 .1 .0 .1 in
-    (search needs, search needs, rw (c .before .loop .inv .2) (one-more (s .args .out .now) 3 (s .args .t2) (c .before .loop .i) (omega arith)))
+    (search needs, search needs, rw (c .before .loop .inv .2) (one-more (s .args .out .now) 4 (s .args .t2) (c .before .loop .i) (omega arith)))
 
 same-length : tie.Need-same-length Inv-loop μ-loop
 same-length c = search needs

@@ -30,7 +30,7 @@ unfolding readingOf
 returns-2 c =
     let ok : SFits w32 (c .signed .result) = record { sfits = c .signed .ok } in
     let s = c .before .before .before .before in
-    (rw (toZ-ofZ ok, c .signed .ensures, c .before .quad .ensures) (laws.single-told _ _ (s .pre .0) 0x56 (s .pre .1) (laws.is-56 _ refl) (omega arith)), omega arith)
+    (rw (toZ-ofZ ok, c .signed .ensures, c .before .quad .ensures) (laws.single-told _ _ (s .pre .0) 0x56 (s .pre .1) (laws.is-56 _ refl) (omega arith)), (omega arith, omega arith))
 
 pub point-spec : {M : Type 1} → statement M
 point-spec = tie.close (tie.spec add-next returns add-quad quad-requires signed-requires returns-2)

@@ -1,5 +1,6 @@
 -- `tape_command::repeated` meets its contract. A 52 with its operands, cut short, or of count 0.
 use mathlib.Core.Path.{sym, _∙_}
+use native.Mathlib.Nat.{pos-of-ne-zero}
 use native.Mathlib.Omega.{arith}
 use mir.Syntax.{w32}
 use mir.Val.{SFits}
@@ -46,7 +47,7 @@ returns-3 c =
     let q = c .before in
     let k = q .before .before in
     let s = k .before .before .before in
-    (rw (toZ-ofZ ok, c .signed .ensures, q .quad .ensures) (laws.repeated-told _ _ (s .pre .0) (s .pre .1) _ (omega arith) (k .pair .ensures) (q .before .if2 .left)), search needs)
+    (rw (toZ-ofZ ok, c .signed .ensures, q .quad .ensures) (laws.repeated-told _ _ (s .pre .0) (s .pre .1) _ (omega arith) (k .pair .ensures) (q .before .if2 .left)), (pos-of-ne-zero (q .before .if2 .left), search needs))
 
 pub repeated-spec : {M : Type 1} → statement M
 repeated-spec =

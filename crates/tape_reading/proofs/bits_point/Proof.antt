@@ -1,36 +1,34 @@
--- `tape_reading::bits_point` meets its contract. Past the last size there is no point; else its whole centimetres get the sign.
+-- `tape_reading::bits_point` meets its contract. The size is one that is taken; its whole centimetres get the sign.
 use mathlib.Core.Path.{ap, _∙_}
 use native.Mathlib.Omega.{arith}
 use mir.Syntax.{w32}
 use mir.Val.{SFits}
 use mir.Facts.{toZ-ofZ}
+use Rattle.tape_reading.specs.Nearest.{signed}
 use Rattle.tape_reading.specs.Patterns.{negative}
-use Rattle.tape_reading.specs.Readings.{valueIn}
-use Rattle.tape_reading.proofs.Sizes.{inside, none-given}
+use Rattle.tape_reading.proofs.Sizes.{passed}
 use Rattle.tape_reading.proofs.bits_point.Statement.{statement}
 use Rattle.tape_reading.proofs.bits_point.Tie as tie
 
-returns : tie.Need-returns
-returns c = none-given _ _ (c .if1 .taken) _ (c .before .pre)
-
 whole-requires : tie.Need-whole-requires
-whole-requires c κs =
-    let t = c .before .pre in
-    let f = t .bounded in
-    (omega arith, t .small)
+whole-requires c κs = let p = c .pre in let i = passed _ _ (p .0) (p .1) in (i .bounded, i .small)
 
 with-sign-requires : tie.Need-with-sign-requires
 with-sign-requires c κs =
-    let t = c .before .before .pre .taken _ (c .before .if1 .left) in
+    let p = c .before .pre in
+    let i = passed _ _ (p .0) (p .1) in
+    let f = i .fits in
     let e = c .whole .ensures in
     omega arith
 
-returns-2 : tie.Need-returns-2
+returns : tie.Need-returns
 unfolding negative
-returns-2 c =
+returns c =
     let ok : SFits w32 (c .with-sign .result) = record { sfits = c .with-sign .ok } in
     let w = c .before in
-    toZ-ofZ ok ∙ c .with-sign .ensures ∙ ap valueIn (inside _ _ _ _ (w .before .before .pre) (w .before .if1 .left) (w .whole .ensures))
+    let s = w .before in
+    let n = s .args .n in
+    toZ-ofZ ok ∙ c .with-sign .ensures ∙ ap (signed (negative n)) (w .whole .ensures) ∙ passed n (s .args .scale) (s .pre .0) (s .pre .1) .is
 
 pub bits-point-spec : {M : Type 1} → statement M
-bits-point-spec = tie.close (tie.spec returns whole-requires with-sign-requires returns-2)
+bits-point-spec = tie.close (tie.spec whole-requires with-sign-requires returns)

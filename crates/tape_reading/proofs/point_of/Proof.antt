@@ -1,10 +1,10 @@
 -- `tape_reading::point_of` meets its contract, case by case.
-use mathlib.Core.Path.{sym, ap, _∙_}
+use mathlib.Core.Path.{refl, sym, ap, _∙_}
+use mathlib.Core.Logic.{inl, inr}
 use mir.Syntax.{w32}
 use mir.Val.{SFits}
 use mir.Facts.{toZ-ofZ}
 use Rattle.tape_reading.specs.Readings.{centimetresOf, valueIn}
-use Rattle.tape_reading.proofs.Sizes.{metres-taken, kilometres-taken}
 use borrow.Author.Needs.{needs}
 use Rattle.tape_reading.proofs.point_of.Statement.{statement}
 use Rattle.tape_reading.proofs.point_of.Tie as tie
@@ -16,13 +16,15 @@ enum-known-reading-2 : tie.Need-enum-known-reading-2
 enum-known-reading-2 c = search needs
 
 float-point-requires : tie.Need-float-point-requires
-float-point-requires c κs = metres-taken
+unfolding centimetresOf
+float-point-requires c κs = (inl refl, rw (c .before .reading2 .given .1) at (c .before .before .before .pre))
 
 enum-known-reading-3 : tie.Need-enum-known-reading-3
 enum-known-reading-3 c = search needs
 
 float-point-requires-2 : tie.Need-float-point-requires-2
-float-point-requires-2 c κs = kilometres-taken
+unfolding centimetresOf
+float-point-requires-2 c κs = (inr refl, rw (c .before .reading3 .given .1) at (c .before .before .before .pre))
 
 returns : tie.Need-returns
 unfolding centimetresOf

@@ -13,10 +13,10 @@ use Rattle.tape_scan.proofs.scan.Tie as tie
 use Rattle.tape_scan.proofs.scan.Statement.{statement}
 
 abbrev Inv-loop : tie.InvT-loop
-Inv-loop tape lengths₀ axes₀ at₀ lengths axes at = (axes ≤ at) × (at ≤ length tape) × (scanning tape ≡ laws.judged axes lengths (commands (drop at tape)))
+Inv-loop tape lengths₀ axes₀ read₀ at₀ lengths axes read at = (axes ≤ at) × (read ≤ at) × (at ≤ length tape) × (scanning tape ≡ laws.judged axes lengths read (commands (drop at tape)))
 
 abbrev μ-loop : tie.MeasureT-loop
-μ-loop tape lengths₀ axes₀ at₀ lengths axes at = length tape - at
+μ-loop tape lengths₀ axes₀ read₀ at₀ lengths axes read at = length tape - at
 
 refused-requires : tie.Need-refused-requires Inv-loop μ-loop
 refused-requires c κs = tt
@@ -25,13 +25,16 @@ returns : tie.Need-returns Inv-loop μ-loop
 returns c = c .refused .ensures ∙ laws.too-long _ (c .before .if1 .taken)
 
 loop-holds : tie.Need-loop-holds Inv-loop μ-loop
-loop-holds c = (search needs, search needs, laws.no-axis-yet _ (c .if1 .left))
+loop-holds c = (search needs, search needs, search needs, laws.no-axis-yet _ (c .if1 .left))
 
 decode-requires : tie.Need-decode-requires Inv-loop μ-loop
 decode-requires c κs = tt
 
-enum-known-d : tie.Need-enum-known-d Inv-loop μ-loop
-enum-known-d c = c .match .keys1
+add-read : tie.Need-add-read Inv-loop μ-loop
+add-read c = search needs
+
+enum-known-answer : tie.Need-enum-known-answer Inv-loop μ-loop
+enum-known-answer c = c .match .keys1
 
 put-requires : tie.Need-put-requires Inv-loop μ-loop
 put-requires c κs = tt
@@ -43,7 +46,7 @@ loop-less : tie.Need-loop-less Inv-loop μ-loop
 loop-less c =
     let s = c .before .before .before .before in
     let t = s .before .before .before .before .args .tape .now in
-    let e = sym (ap meant (c .before .before .d .given .1)) ∙ s .decode .ensures .0 in
+    let e = sym (ap meant (c .before .before .answer .given .1)) ∙ s .decode .ensures .0 in
     let m = decoding.tells t (s .before .loop .at) e in
     omega arith
 
@@ -51,15 +54,20 @@ loop-again : tie.Need-loop-again Inv-loop μ-loop
 loop-again c =
     let s = c .before .before .before .before in
     let t = s .before .before .before .before .args .tape .now in
-    let e = sym (ap meant (c .before .before .d .given .1)) ∙ s .decode .ensures .0 in
+    let e = sym (ap meant (c .before .before .answer .given .1)) ∙ s .decode .ensures .0 in
     let m = decoding.tells t (s .before .loop .at) e in
-    (omega arith, omega arith, rw (c .put .ensures) (s .before .loop .inv .2 ∙ laws.axis-more t _ _ _ _ _ e))
+    (omega arith, omega arith, omega arith, rw (c .put .ensures) (s .before .loop .inv .3 ∙ laws.axis-more t _ _ _ _ _ _ e))
 
-enum-known-p : tie.Need-enum-known-p Inv-loop μ-loop
-enum-known-p c = c .match .keys2
+enum-known-answer-2 : tie.Need-enum-known-answer-2 Inv-loop μ-loop
+enum-known-answer-2 c = c .match .keys2
 
 count-requires : tie.Need-count-requires Inv-loop μ-loop
-count-requires c κs = search needs
+count-requires c κs =
+    let s = c .before .before .before in
+    let t = s .before .before .before .before .args .tape .now in
+    let e = sym (ap meant (c .before .answer2 .given .1)) ∙ s .decode .ensures .0 in
+    let m = decoding.tells t (s .before .loop .at) e in
+    (omega arith, omega arith, omega arith)
 
 enum-known-points : tie.Need-enum-known-points Inv-loop μ-loop
 enum-known-points c = c .match2 .keys1
@@ -75,7 +83,7 @@ returns-2 c =
     let n = c .before .before .before in
     let q = n .before .before in
     let s = q .before .before in
-    c .refused2 .ensures ∙ laws.boards-broken _ _ _ _ _ _ (sym (ap meant (q .p .given .1)) ∙ s .decode .ensures .0) (sym (c .before .enum-told .given .1) ∙ n .count .ensures) ∙ sym (s .before .loop .inv .2)
+    c .refused2 .ensures ∙ laws.boards-broken _ _ _ _ _ _ _ (sym (ap meant (q .answer2 .given .1)) ∙ s .decode .ensures .0) (sym (c .before .enum-told .given .1) ∙ n .count .ensures) ∙ sym (s .before .loop .inv .3)
 
 refused-requires-3 : tie.Need-refused-requires-3 Inv-loop μ-loop
 refused-requires-3 c κs = tt
@@ -86,10 +94,10 @@ returns-3 c =
     let n = k .before .before in
     let q = n .before .before in
     let s = q .before .before in
-    c .refused3 .ensures ∙ laws.boards-refused _ _ _ _ _ _ (sym (ap meant (q .p .given .1)) ∙ s .decode .ensures .0) _ _ (c .before .if2 .taken) (sym (k .points .given .1) ∙ n .count .ensures) ∙ sym (s .before .loop .inv .2)
+    c .refused3 .ensures ∙ laws.boards-refused _ _ _ _ _ _ _ (sym (ap meant (q .answer2 .given .1)) ∙ s .decode .ensures .0) _ _ _ (c .before .if2 .taken) (sym (k .points .given .1) ∙ n .count .ensures) ∙ sym (s .before .loop .inv .3)
 
-cast-t17 : tie.Need-cast-t17 Inv-loop μ-loop
-cast-t17 c = search needs
+cast-t19 : tie.Need-cast-t19 Inv-loop μ-loop
+cast-t19 c = search needs
 
 returns-4 : tie.Need-returns-4 Inv-loop μ-loop
 returns-4 c =
@@ -97,7 +105,7 @@ returns-4 c =
     let n = k .before .before in
     let q = n .before .before in
     let s = q .before .before in
-    laws.boards-whole _ _ _ _ _ _ (sym (ap meant (q .p .given .1)) ∙ s .decode .ensures .0) _ (rw (c .if2 .left) at (sym (k .points .given .1) ∙ n .count .ensures)) ∙ sym (s .before .loop .inv .2)
+    laws.boards-whole _ _ _ _ _ _ _ (sym (ap meant (q .answer2 .given .1)) ∙ s .decode .ensures .0) _ _ (rw (c .if2 .left) at (sym (k .points .given .1) ∙ n .count .ensures)) ∙ sym (s .before .loop .inv .3)
 
 refused-requires-4 : tie.Need-refused-requires-4 Inv-loop μ-loop
 refused-requires-4 c κs = tt
@@ -105,7 +113,7 @@ refused-requires-4 c κs = tt
 returns-5 : tie.Need-returns-5 Inv-loop μ-loop
 returns-5 c =
     let s = c .before .before in
-    c .refused4 .ensures ∙ laws.no-length _ _ _ _ (s .decode .result) (c .before .match .keys3) (s .decode .ensures .0) ∙ sym (s .before .loop .inv .2)
+    c .refused4 .ensures ∙ laws.no-length _ _ _ _ _ (s .decode .result) (c .before .match .keys3) (s .decode .ensures .0) ∙ sym (s .before .loop .inv .3)
 
 pub scan-spec : {M : Type 1} → statement M
 scan-spec =
@@ -117,12 +125,13 @@ scan-spec =
     returns
     loop-holds
     decode-requires
-    enum-known-d
+    add-read
+    enum-known-answer
     put-requires
     add-axes
     loop-less
     loop-again
-    enum-known-p
+    enum-known-answer-2
     count-requires
     enum-known-points
     enum-told
@@ -130,7 +139,7 @@ scan-spec =
     returns-2
     refused-requires-3
     returns-3
-    cast-t17
+    cast-t19
     returns-4
     refused-requires-4
     returns-5)
