@@ -91,6 +91,6 @@ print('''
 ## Ratios
 
 Time of what is proved over time of `compare`, same input, both built for release. `linked bench` times calls of the libraries, `compare bench` whole
-processes. A loaded machine shifts the ratios.
+processes. Of the two ratios of opening, the first is to a scan and then a filling, each of which scans. A loaded machine shifts the ratios.
 ''')
 print('```\n' + (bench.group() if bench else 'not in the log\n') + '```')

@@ -15,10 +15,11 @@ pub enum Entry {
     Gather,
     Scan,
     Fill,
+    Open,
 }
 
 /// What an entry is lent: `Small` and `Lengths` are a plan's two slices, `Asked` the lengths to
-/// plan for.
+/// plan for, `Array` the points, which a step reads and a tape fills.
 #[derive(Clone, Copy, Debug, PartialEq)]
 pub enum Part {
     Asked,
@@ -54,12 +55,27 @@ impl When {
 pub enum Change {
     /// Another number is answered: so much larger, with 0 after 15.
     Answer(u8),
+    /// 13 is answered ahead of what is due, where the result has the wrong length.
+    ResultFirst,
     /// The cell of that number, or the last, is another.
     Cell(Part, usize),
     Last(Part),
     /// The cell next to the slice is another.
     Before(Part),
     After(Part),
+    Miscount(Miscount),
+}
+
+/// How a scan that is told counts wrongly.
+#[derive(Clone, Copy, Debug, PartialEq)]
+pub enum Miscount {
+    /// One command too few.
+    EndLeftOut,
+    AxesLeftOut,
+    /// A 52 is as many commands as it repeats its point.
+    RepeatsAsCommands,
+    /// A 52 is one point.
+    RepeatsAsOnePoint,
 }
 
 #[derive(Clone, Copy, Debug, PartialEq)]
@@ -91,6 +107,14 @@ pub fn told(entry: Entry, answer: u8) -> u8 {
     }
 }
 
+/// The answer, or another; `fits` where the result has the right length.
+pub fn told_with(entry: Entry, answer: u8, fits: bool) -> u8 {
+    match planted(entry, answer) {
+        Some(Change::ResultFirst) if !fits => 13,
+        _ => told(entry, answer),
+    }
+}
+
 /// A cell of lent memory.
 pub trait Lend: Copy + PartialEq {
     /// What memory holds that no call is to write.
@@ -114,6 +138,23 @@ macro_rules! lend {
 }
 
 lend!(u8 u32 u64 i32 i64);
+
+/// Counts a scan anew by the miscount that is planted, if one is.
+pub fn miscount(entry: Entry, answer: u8, scan: &mut [u64]) {
+    let (Some(Change::Miscount(miscount)), [axes, _, points, commands, ..]) =
+        (planted(entry, answer), scan)
+    else {
+        return;
+    };
+    // Every command but those of the points.
+    let others = *axes + 2;
+    match miscount {
+        Miscount::EndLeftOut => *commands -= 1,
+        Miscount::AxesLeftOut => *commands -= *axes,
+        Miscount::RepeatsAsCommands => *commands = others + *points,
+        Miscount::RepeatsAsOnePoint => *points = *commands - others,
+    }
+}
 
 /// Changes the cell of a slice that is planted, if one is.
 pub fn spoil<T: Lend>(entry: Entry, answer: u8, part: Part, cells: &mut [T]) {

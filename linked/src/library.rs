@@ -3,8 +3,9 @@
 
 use std::slice;
 
-use crate::faults::{spoil, told, Entry, Part};
+use crate::faults::{miscount, spoil, told, told_with, Entry, Part};
 use crate::misread::heard;
+use crate::tapes::SCANNED;
 
 extern "C" {
     fn campaign_plan(
@@ -98,6 +99,14 @@ extern "C" {
     ) -> u8;
     fn campaign_scan(tape: *const u8, tape_len: usize, scan: *mut u64, scan_len: usize) -> u8;
     fn campaign_fill(tape: *const u8, tape_len: usize, array: *mut i32, array_len: usize) -> u8;
+    fn campaign_open(
+        tape: *const u8,
+        tape_len: usize,
+        array: *mut i32,
+        array_len: usize,
+        scan: *mut u64,
+        scan_len: usize,
+    ) -> u8;
 }
 
 /// A plan as it is lent.
@@ -232,13 +241,32 @@ pub fn scan(tape: &[u8], scan: &mut [u64]) -> u8 {
     let tape = heard(tape);
     let answer = unsafe { campaign_scan(tape.as_ptr(), tape.len(), scan.as_mut_ptr(), scan.len()) };
     spoil(Entry::Scan, answer, Part::Result, scan);
-    told(Entry::Scan, answer)
+    miscount(Entry::Scan, answer, scan);
+    told_with(Entry::Scan, answer, scan.len() == SCANNED)
 }
 
 pub fn fill(tape: &[u8], array: &mut [i32]) -> u8 {
     let tape = heard(tape);
     let answer =
         unsafe { campaign_fill(tape.as_ptr(), tape.len(), array.as_mut_ptr(), array.len()) };
-    spoil(Entry::Fill, answer, Part::Result, array);
+    spoil(Entry::Fill, answer, Part::Array, array);
     told(Entry::Fill, answer)
+}
+
+pub fn open(tape: &[u8], array: &mut [i32], scan: &mut [u64]) -> u8 {
+    let tape = heard(tape);
+    let answer = unsafe {
+        campaign_open(
+            tape.as_ptr(),
+            tape.len(),
+            array.as_mut_ptr(),
+            array.len(),
+            scan.as_mut_ptr(),
+            scan.len(),
+        )
+    };
+    spoil(Entry::Open, answer, Part::Array, array);
+    spoil(Entry::Open, answer, Part::Result, scan);
+    miscount(Entry::Open, answer, scan);
+    told_with(Entry::Open, answer, scan.len() == SCANNED)
 }

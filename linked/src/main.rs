@@ -23,7 +23,7 @@ use std::time::Instant;
 
 const USAGE: &str = "\
 usage: linked plans SEED N      compare planning on every small shape, N random requests and every refusal
-       linked tapes SEED N      compare reading on N made tapes, and on tapes damaged at every byte
+       linked tapes SEED N      compare scanning, filling and opening on N made tapes, and on tapes damaged at every byte
        linked readings          compare readings in metres and kilometres: 4,096 mantissas of every sign and exponent, borders, ties
        linked readings all      the same for all 2^32 patterns, on two threads, for some minutes
        linked steps SEED N      compare prices, T, every step and held on every small plan, N random plans and every refusal

@@ -23,15 +23,19 @@ const UNTOUCHED: i32 = i32::MIN;
 /// Cells of the lent slice after the points.
 const SPARE: usize = 2;
 
-/// The two calls, watched or as they are.
+/// What a scan's cells hold before a call.
+const UNTOLD: [u64; SCANNED] = [u64::MAX; SCANNED];
+
+/// The calls that take a tape, watched or as they are.
 #[derive(Clone, Copy)]
 struct Calls {
     scan: fn(&[u8], &mut [u64]) -> u8,
     fill: fn(&[u8], &mut [i32]) -> u8,
+    open: fn(&[u8], &mut [i32], &mut [u64]) -> u8,
 }
 
-const WATCHED: Calls = Calls { scan: watched::scan, fill: watched::fill };
-const PLAIN: Calls = Calls { scan: library::scan, fill: library::fill };
+const WATCHED: Calls = Calls { scan: watched::scan, fill: watched::fill, open: watched::open };
+const PLAIN: Calls = Calls { scan: library::scan, fill: library::fill, open: library::open };
 
 /// A tape of readings along one axis, and what a slice holds before and after it is filled.
 struct Log {
@@ -61,23 +65,18 @@ impl Log {
         self.due[place] = due.unwrap_or(UNTOUCHED);
     }
 
-    /// What both calls answer, and all that they write.
+    /// What the calls answer, and all that they write.
     fn compare(&mut self, count: &mut Count, calls: Calls, due: Result<(), Refusal>) {
         let refusal = due.map_or_else(|Refusal(number)| number, |()| 0);
         self.scan(count, calls, refusal);
         self.fill(count, calls, refusal);
+        self.open(count, calls, refusal);
     }
 
     fn scan(&self, count: &mut Count, calls: Calls, refusal: u8) {
-        let before = [u64::MAX; SCANNED];
-        let mut due = before;
-        if refusal == 0 {
-            let readings = self.readings.into();
-            due = [1, 0, readings, readings, 0, 0, 0, 0, 0, 0, 0];
-        }
-        let mut scan = before;
+        let mut scan = UNTOLD;
         let answer = (calls.scan)(&self.tape, &mut scan);
-        count.note((answer, scan) == (refusal, due), || {
+        count.note((answer, scan) == (refusal, self.told(refusal)), || {
             format!("scan of {}: {answer} {scan:?}, due {refusal}", self.shown())
         });
     }
@@ -85,11 +84,45 @@ impl Log {
     fn fill(&mut self, count: &mut Count, calls: Calls, refusal: u8) {
         self.cells.copy_from_slice(&self.untouched);
         let answer = (calls.fill)(&self.tape, &mut self.cells);
-        let due = if refusal == 0 { &self.due } else { &self.untouched };
-        count.note(answer == refusal && self.cells == *due, || {
-            let cell = self.cells.iter().zip(due).find(|(cell, due)| cell != due);
-            format!("fill from {}: {answer}, due {refusal}; cell and due {cell:?}", self.shown())
+        count.note(answer == refusal && self.cells == self.written(refusal), || {
+            let cell = self.difference(refusal);
+            format!("fill from {}: {answer}, due {refusal}; {cell}", self.shown())
         });
+    }
+
+    fn open(&mut self, count: &mut Count, calls: Calls, refusal: u8) {
+        self.cells.copy_from_slice(&self.untouched);
+        let mut scan = UNTOLD;
+        let answer = (calls.open)(&self.tape, &mut self.cells, &mut scan);
+        let told = (answer, scan) == (refusal, self.told(refusal));
+        count.note(told && self.cells == self.written(refusal), || {
+            let cell = self.difference(refusal);
+            format!("open of {}: {answer} {scan:?}, due {refusal}; {cell}", self.shown())
+        });
+    }
+
+    /// A scan's cells after a call.
+    fn told(&self, refusal: u8) -> [u64; SCANNED] {
+        if refusal != 0 {
+            return UNTOLD;
+        }
+        let readings = self.readings.into();
+        // Beside the readings there are an axis, a p and an end.
+        [1, 0, readings, readings + 3, readings, 0, 0, 0, 0, 0, 0, 0]
+    }
+
+    /// The lent slice after a call.
+    fn written(&self, refusal: u8) -> &[i32] {
+        if refusal == 0 {
+            &self.due
+        } else {
+            &self.untouched
+        }
+    }
+
+    fn difference(&self, refusal: u8) -> String {
+        let mut cells = self.cells.iter().zip(self.written(refusal));
+        format!("cell and due {:?}", cells.find(|(cell, due)| cell != due))
     }
 
     fn shown(&self) -> String {

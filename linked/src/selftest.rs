@@ -1,6 +1,6 @@
 //! Faults planted between the library and each comparison: every one must be seen.
 
-use crate::faults::{plant, Change, Entry, Fault, Part, When};
+use crate::faults::{plant, Change, Entry, Fault, Miscount, Part, When};
 use crate::misread::{self, Misreading};
 use crate::{memory, plans, readings, steps, tapes, Count};
 
@@ -44,7 +44,7 @@ const fn reading(entry: Entry, written: &'static [(Part, Option<usize>)]) -> Tri
     Trial { entry, taken, refused, written, read: &[Part::Tape] }
 }
 
-const TRIALS: [Trial; 11] = [
+const TRIALS: [Trial; 12] = [
     planning(Entry::Plan, &[(Part::Result, None)]),
     planning(
         Entry::Make,
@@ -61,8 +61,9 @@ const TRIALS: [Trial; 11] = [
     ),
     running(Entry::View, &[(Part::Result, Some(2))], PLAN_AND_WORK),
     running(Entry::Gather, &[(Part::Result, None)], PLAN_AND_WORK),
-    reading(Entry::Scan, &[(Part::Result, Some(11))]),
-    reading(Entry::Fill, &[(Part::Result, None)]),
+    reading(Entry::Scan, &[(Part::Result, Some(12))]),
+    reading(Entry::Fill, &[(Part::Array, None)]),
+    reading(Entry::Open, &[(Part::Array, None), (Part::Result, Some(12))]),
 ];
 
 /// What can be wrong with a call: its answer, each cell that it writes, the ends of a slice that
@@ -99,6 +100,8 @@ pub fn check() -> Count {
     }
     try_all(&mut count, Entry::Step, When::Taken, (memory::runs, 7, 4), changes_in_runs());
     offences(&mut count);
+    slices(&mut count);
+    miscounts(&mut count);
     misreadings(&mut count);
     count
 }
@@ -117,6 +120,34 @@ fn offences(count: &mut Count) {
                 try_all(count, trial.entry, When::By(number), compare, changes(trial));
             }
         }
+    }
+}
+
+/// Faults in calls that are refused for a lent slice alone, and such a refusal ahead of others.
+fn slices(count: &mut Count) {
+    let own = [(Entry::Scan, 13), (Entry::Fill, 11), (Entry::Open, 11), (Entry::Open, 13)];
+    for (entry, number) in own {
+        for trial in TRIALS.iter().filter(|trial| trial.entry == entry) {
+            try_all(count, entry, When::By(number), DAMAGED, changes(trial));
+        }
+    }
+    for (entry, earlier) in [(Entry::Scan, &[2, 14, 15][..]), (Entry::Open, &[2, 14, 15, 11])] {
+        for &number in earlier {
+            try_all(count, entry, When::By(number), DAMAGED, vec![Change::ResultFirst]);
+        }
+    }
+}
+
+/// Faults in the counts that a scan tells; tapes of readings have no 52.
+fn miscounts(count: &mut Count) {
+    let of_all = [Miscount::EndLeftOut, Miscount::AxesLeftOut];
+    let of_repeats = [Miscount::RepeatsAsCommands, Miscount::RepeatsAsOnePoint];
+    let changes =
+        |miscounts: &[Miscount]| miscounts.iter().copied().map(Change::Miscount).collect();
+    for entry in [Entry::Scan, Entry::Open] {
+        try_all(count, entry, When::Taken, MADE, changes(&[of_all, of_repeats].concat()));
+        try_all(count, entry, When::Taken, SINGLES, changes(&of_all));
+        try_all(count, entry, When::Taken, MANY, changes(&of_all));
     }
 }
 

@@ -216,7 +216,19 @@ pub fn scan(tape: &[u8], scan: &mut [u64]) -> u8 {
 
 pub fn fill(tape: &[u8], array: &mut [i32]) -> u8 {
     let mut bytes = Copied::new(Part::Tape, tape);
-    let mut out = Copied::new(Part::Result, array);
-    let answer = library::fill(bytes.cells(), out.cells());
-    Ended::new(Entry::Fill, answer).read(bytes, tape).written(out, array).answer()
+    let mut points = Copied::new(Part::Array, array);
+    let answer = library::fill(bytes.cells(), points.cells());
+    Ended::new(Entry::Fill, answer).read(bytes, tape).written(points, array).answer()
+}
+
+pub fn open(tape: &[u8], array: &mut [i32], scan: &mut [u64]) -> u8 {
+    let mut bytes = Copied::new(Part::Tape, tape);
+    let mut points = Copied::new(Part::Array, array);
+    let mut out = Copied::new(Part::Result, scan);
+    let answer = library::open(bytes.cells(), points.cells(), out.cells());
+    Ended::new(Entry::Open, answer)
+        .read(bytes, tape)
+        .written(points, array)
+        .written(out, scan)
+        .answer()
 }
