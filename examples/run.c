@@ -1,8 +1,8 @@
 /*
- * A whole campaign: two fault loops on three line sections, on a rack of two boards. Plans it from
- * its tape, lends memory, takes every step, gathers each choice when it is finished and prints its
- * totals; shows what another plan costs, what the boards hold, where a board's own cells lie, and
- * refusals that leave everything as it was.
+ * A whole campaign: two fault loops on three line sections, on a rack of two boards. Opens it from
+ * its tape, plans it, lends memory, takes every step, gathers each choice when it is finished and
+ * prints its totals; shows what another plan costs, what the boards hold, where a board's own cells
+ * lie, and refusals that leave everything as it was.
  */
 #include <inttypes.h>
 #include <stdio.h>
@@ -17,6 +17,9 @@ static const uint8_t tape[] = {
     0x56, 4, 0, 0, 0, 0x56, 5, 0, 0, 0, 0x56, 0xfa, 0xff, 0xff, 0xff,
     0x45,
 };
+
+/* The most points that are taken here. */
+#define ROOM 8192
 
 static void check(const char *what, uint8_t refusal)
 {
@@ -38,10 +41,9 @@ static void *lent(size_t n, size_t size)
 }
 
 /* Plans what the tape holds; it has as many points as the plan. */
-static void plan_tape(struct campaign_tape *scan, struct campaign_rack_plan *plan,
+static void plan_tape(const struct campaign_tape *scan, struct campaign_rack_plan *plan,
                       struct campaign_prices *prices)
 {
-    check("scan", campaign_tape_scan(tape, sizeof tape, scan));
     if (scan->axes > CAMPAIGN_AXES)
         check("plan", CAMPAIGN_BAD_AXES);
     check("plan", campaign_plan_make(scan->lengths, scan->axes, scan->p, plan, prices));
@@ -155,24 +157,31 @@ int main(void)
 {
     struct campaign_rack_plan plan;
     struct campaign_prices prices;
-    struct campaign_tape scan;
+    struct campaign_tape scan, needed;
     struct campaign_rack_step step;
     uint64_t position = 2;
     uint8_t refusal;
+
+    /* Lend memory for any campaign that is taken here, and open this one: one scan, one filling. */
+    int32_t *array = (int32_t *)lent(ROOM, sizeof *array);
+    check("open", campaign_tape_open(tape, sizeof tape, array, ROOM, &scan));
+    printf("tape: %" PRIu64 " commands, %" PRIu64 " points\n", scan.commands, scan.points);
 
     plan_tape(&scan, &plan, &prices);
     print_prices("plan", &prices);
     print_other(&plan);
     print_steps(&plan);
 
-    /* Lend memory for the points and for the work, and run. */
+    /* Lend memory for the work, and run. */
     size_t points = campaign_points(&plan), cells = campaign_work_cells(&plan, &prices);
-    int32_t *array = (int32_t *)lent(points, sizeof *array);
     int64_t *work = (int64_t *)lent(cells, sizeof *work);
-    check("fill", campaign_fill(tape, sizeof tape, array, points));
     run(&plan, array, points, work, cells);
 
-    /* Refusals: a plan for too many boards, a step that is lent too few points. */
+    /* Refusals: too few cells for the tape's points, whose number a scan tells; a plan for too many
+       boards; a step that is lent too few points. */
+    refusal = campaign_tape_open(tape, sizeof tape, array, points - 1, &scan);
+    check("scan", campaign_tape_scan(tape, sizeof tape, &needed));
+    printf("refused %u, the tape needs %" PRIu64 " cells\n", refusal, needed.points);
     refusal = campaign_plan_make(scan.lengths, scan.axes, 3, &plan, &prices);
     printf("refused %u, the plan is still for %" PRIu32 " boards\n", refusal,
            campaign_boards(&plan));

@@ -12,7 +12,8 @@
  * The inline functions below are C, and not proved. Those that return a uint8_t hand structures
  * over to a function of the library, return what it returns, and write nothing where it refuses.
  * campaign_boards, campaign_work_cells, campaign_choice_cells and campaign_points work out sizes
- * and refuse nothing; each says where it gives 0.
+ * and refuse nothing; each says where it gives 0. campaign_tell_step and campaign_tell_tape put
+ * cells into structures for the others.
  *
  * What a caller owes: each pointer is not null, also where its length is 0, is aligned for its
  * type and valid for its length, and what a function writes overlaps nothing else that the same
@@ -65,8 +66,8 @@ extern "C" {
 #define CAMPAIGN_BAD_EXPONENTS 9    /* an axis has more portions than it is long, or the exponents
                                        do not sum to p */
 #define CAMPAIGN_BAD_ARRAY 10       /* the number of points is not the product of the lengths */
-#define CAMPAIGN_SMALL_AREA 11      /* the work area is under 2^p shares; or campaign_fill's slice
-                                       is too short for the tape's points */
+#define CAMPAIGN_SMALL_AREA 11      /* the work area is under 2^p shares; or the slice for a tape's
+                                       points is too short for them */
 #define CAMPAIGN_BAD_POSITION 12    /* the position is past the last step; or view or gather does
                                        not follow a finish; or there is no such board */
 #define CAMPAIGN_BAD_RESULT 13      /* a lent result has the wrong length */
@@ -134,7 +135,8 @@ struct campaign_part {
 struct campaign_tape {
     size_t axes;                      /* can be over CAMPAIGN_AXES: it has no plan then */
     uint8_t p;
-    uint64_t points;
+    uint64_t points;                  /* a 52 counts as often as it repeats its point */
+    uint64_t commands;                /* of every kind, with the 42 and the 45; a 52 is one */
     uint32_t lengths[CAMPAIGN_AXES];  /* of the first axes; 0 past the last */
 };
 
@@ -153,7 +155,7 @@ struct campaign_tape {
 #define CAMPAIGN_PRICES_CELLS 3                    /* moved, added, share */
 #define CAMPAIGN_STEP_CELLS 5                      /* kind, sender, receiver, choice, values */
 #define CAMPAIGN_PART_CELLS 2                      /* start, cells */
-#define CAMPAIGN_TAPE_CELLS (3 + CAMPAIGN_AXES)    /* axes, p, points, lengths */
+#define CAMPAIGN_TAPE_CELLS (4 + CAMPAIGN_AXES)    /* axes, p, points, commands, lengths */
 
 /*
  * Planning for a rack controller, over bytes. Refusals 3 to 7, 13.
@@ -234,6 +236,10 @@ uint8_t campaign_scan(const uint8_t *tape, size_t tape_len, uint64_t *scan, size
  * are not touched. The tape's lengths and p play no part here. Refusals 1, 2, 14, 15, 11.
  */
 uint8_t campaign_fill(const uint8_t *tape, size_t tape_len, int32_t *array, size_t array_len);
+
+/* Opening a campaign: see campaign_tape_open. */
+uint8_t campaign_open(const uint8_t *tape, size_t tape_len, int32_t *array, size_t array_len,
+                      uint64_t *scan, size_t scan_len);
 
 /* ---- over structures --------------------------------------------------------------------- */
 
@@ -328,8 +334,8 @@ static inline uint8_t campaign_plan_step_count(const struct campaign_rack_plan *
 }
 
 /* For the functions below: what a step tells, out of its cells. */
-static inline void campaign_tell(const uint64_t cells[CAMPAIGN_STEP_CELLS],
-                                 struct campaign_rack_step *step)
+static inline void campaign_tell_step(const uint64_t cells[CAMPAIGN_STEP_CELLS],
+                                      struct campaign_rack_step *step)
 {
     step->kind = cells[0];
     step->sender = cells[1];
@@ -347,7 +353,7 @@ static inline uint8_t campaign_plan_step_at(const struct campaign_rack_plan *pla
                                        CAMPAIGN_AXES, position, cells, CAMPAIGN_STEP_CELLS);
 
     if (refusal == CAMPAIGN_OK)
-        campaign_tell(cells, step);
+        campaign_tell_step(cells, step);
     return refusal;
 }
 
@@ -381,7 +387,7 @@ static inline uint8_t campaign_plan_step(const struct campaign_rack_plan *plan,
                                     cells, CAMPAIGN_STEP_CELLS);
 
     if (refusal == CAMPAIGN_OK)
-        campaign_tell(cells, step);
+        campaign_tell_step(cells, step);
     return refusal;
 }
 
@@ -418,10 +424,22 @@ static inline uint8_t campaign_plan_gather(const struct campaign_rack_plan *plan
                            CAMPAIGN_AXES, work, work_len, position, result, result_len);
 }
 
+/* For the functions below: what a tape holds, out of its cells. */
+static inline void campaign_tell_tape(const uint64_t cells[CAMPAIGN_TAPE_CELLS],
+                                      struct campaign_tape *scan)
+{
+    scan->axes = (size_t)cells[0];
+    scan->p = (uint8_t)cells[1];
+    scan->points = cells[2];
+    scan->commands = cells[3];
+    for (unsigned d = 0; d < CAMPAIGN_AXES; d++)
+        scan->lengths[d] = (uint32_t)cells[4 + d];
+}
+
 /*
- * Judges a tape's form and its readings, and tells what it holds. Whether such a campaign can be
- * planned is for campaign_plan_make to say, where it has no more than CAMPAIGN_AXES axes. Refusals
- * 1, 2, 14, 15.
+ * Judges a tape's form and its readings in one pass, and tells what it holds. Whether such a
+ * campaign can be planned is for campaign_plan_make to say, where it has no more than CAMPAIGN_AXES
+ * axes. Refusals 1, 2, 14, 15.
  */
 static inline uint8_t campaign_tape_scan(const uint8_t *tape, size_t tape_len,
                                          struct campaign_tape *scan)
@@ -429,13 +447,29 @@ static inline uint8_t campaign_tape_scan(const uint8_t *tape, size_t tape_len,
     uint64_t cells[CAMPAIGN_TAPE_CELLS];
     uint8_t refusal = campaign_scan(tape, tape_len, cells, CAMPAIGN_TAPE_CELLS);
 
-    if (refusal == CAMPAIGN_OK) {
-        scan->axes = (size_t)cells[0];
-        scan->p = (uint8_t)cells[1];
-        scan->points = cells[2];
-        for (unsigned d = 0; d < CAMPAIGN_AXES; d++)
-            scan->lengths[d] = (uint32_t)cells[3 + d];
-    }
+    if (refusal == CAMPAIGN_OK)
+        campaign_tell_tape(cells, scan);
+    return refusal;
+}
+
+/*
+ * Opens a campaign: does what campaign_tape_scan and campaign_fill do, but scans the tape once,
+ * where these two scan it twice. Refusals 1, 2, 14, 15, 11. As with the scan, the lengths, p and
+ * the number of points are judged by planning and by the steps (3 to 7 and 10), not here.
+ *
+ * A caller lends as many cells as the largest campaign that it takes has points, and 11 says that
+ * the tape has more; no campaign that can be planned has more than CAMPAIGN_POINTS. One that would
+ * rather lend no more than is needed asks campaign_tape_scan for the number of points first.
+ */
+static inline uint8_t campaign_tape_open(const uint8_t *tape, size_t tape_len,
+                                         int32_t *array, size_t array_len,
+                                         struct campaign_tape *scan)
+{
+    uint64_t cells[CAMPAIGN_TAPE_CELLS];
+    uint8_t refusal = campaign_open(tape, tape_len, array, array_len, cells, CAMPAIGN_TAPE_CELLS);
+
+    if (refusal == CAMPAIGN_OK)
+        campaign_tell_tape(cells, scan);
     return refusal;
 }
 
