@@ -1,6 +1,6 @@
--- Laws of what planning, step, view and gather leave in what a caller in C lends.
+-- Laws of what planning, idle boards, step, view and gather leave in what a caller in C lends.
 use Prim.Native.Nat.{ℕ, zero, suc}
-use mathlib.Core.Path.{_≡_, refl, sym, ap, ap₂, _∙_}
+use mathlib.Core.Path.{_≡_, refl, sym, ap, _∙_}
 use mathlib.Core.Bool.{Bool, true, false, not}
 use mathlib.Core.List.{List, [], _∷_, _++_}
 use native.Mathlib.Omega.{arith}
@@ -12,84 +12,98 @@ use Rattle.cube_spec.specs.Checks.{Check, check, first}
 use Rattle.plan_spec.specs.declared.types.Plan.{Plan}
 use Rattle.plan_spec.specs.declared.types.Prices.{Prices}
 use Rattle.plan_spec.specs.declared.types.Planned.{Planned}
-use Rattle.plan_spec.specs.Plans.{slotted}
-use Rattle.plan_spec.specs.Rule.{planOf}
+use Rattle.plan_spec.specs.Plans.{PlanLists, slotted}
+use Rattle.plan_spec.specs.Rule.{planOf, powerUsed, planWithin, idleBoards}
 use Rattle.plan_spec.specs.Refusals.{planChecks, lengthChecks, planningChecks, planningRefusal, planRefusal}
 use Rattle.plan_spec.specs.Answers.{pricesOf, plannedAs, planning}
-use Rattle.plan_spec.proofs.Accepting.{padded-length, planning-accepted, planned-accepted}
-use Rattle.plan_spec.proofs.Answering.{refusal-of, plan-of, prices-of}
+use Rattle.plan_spec.proofs.Accepting.{padded-length, planning-numbered, planning-accepted, planned-accepted}
+use Rattle.plan_spec.proofs.Answering.{refusal-of, plan-of, prices-of, idle-of}
 use Rattle.plan_spec.proofs.Demand.{plan-sound}
 use Rattle.cube_spec.proofs.Sums.{by}
-use Rattle.cube_spec.proofs.Dues.{Numbered, first-due, first-passed}
+use Rattle.cube_spec.proofs.Dues.{Numbered, first-due, first-passed, lacks, never}
 use Rattle.rack_spec.specs.Finding.{planGrid}
 use Rattle.rack_spec.specs.Answers.{Told}
 use Rattle.run_spec.specs.Entries.{Outcome, outcome, stepChecks, stepRefusal, stepping, viewChecks, viewRefusal, viewing, gatherRefusal, gathering}
 use Rattle.run_view.specs.declared.types.Part.{Part}
 use Rattle.run_view.specs.Places.{partOf}
 use Rattle.run_view.proofs.Placed.{shown-part}
+use Rattle.controller.specs.declared.types.Asked.{Asked}
+use Rattle.controller.specs.Bytes.{askedChecks, askedRefusal, asking}
+use Rattle.controller.proofs.Pairing as pairing
 use Rattle.campaign_slices.specs.Lent.{lentRefusal, writtenOr}
-use Rattle.campaign_slices.specs.Racks.{planFrom, bytesOf, cellsTold, cellsPriced}
+use Rattle.campaign_slices.specs.Racks.{planFrom, bytesOf, cellsTold, cellsPlanned}
 use Rattle.campaign_slices.proofs.Racking as racking
 use Rattle.campaign_slices.proofs.Lending as lending
-use Rattle.campaign.specs.Calls.{wrongSlices, makeRefusal, made, madeOr, making, readBack, runRefusal, ran, ranOr, running, cellsPart, partRefusal, parting}
+use Rattle.campaign.specs.Calls.{wrongSlices, makeRefusal, made, madeOr, making, readBack, idleRefusal, idling, runRefusal, ran, ranOr, running, cellsPart, partRefusal, parting}
 
 -- ---- planning
 
-module _ (ds : List ℕ) (p : ℕ) (small slots prices : List ℕ) where
-  planning-numbered : Numbered (planningChecks ds p)
-  unfolding planningChecks lengthChecks
-  planning-numbered = (omega arith, (omega arith, (omega arith, (omega arith, (omega arith, tt)))))
-
+module _ (ds : List ℕ) (p : ℕ) (small slots cells : List ℕ) where
   module _ (f : Planned) (e : f ≡ planning ds p) where
     refusal-is : f .refusal ≡ planningRefusal ds p
     unfolding planning
-    refusal-is = ap (λ (x : Planned). x .refusal) e ∙ refusal-of _ _
+    refusal-is = ap (λ (x : Planned). x .refusal) e ∙ refusal-of _ _ _
 
-    left : (n : ℕ) (a : Planned) → (n ≡ 0 → ⊥) → made n small slots prices ≡ madeOr n a small slots prices
+    left : (n : ℕ) (a : Planned) → (n ≡ 0 → ⊥) → made n small slots cells ≡ madeOr n a small slots cells
     unfolding madeOr
     left zero a h = absurd (h refl)
     left (suc n) a h = refl
 
-    pub make-refused : (f .refusal ≡ 0 → ⊥) → made (f .refusal) small slots prices ≡ making ds p small slots prices
+    pub make-refused : (f .refusal ≡ 0 → ⊥) → made (f .refusal) small slots cells ≡ making ds p small slots cells
     unfolding making makeRefusal planningRefusal
     make-refused h =
-        let due = first-due (planningChecks ds p) (check 13 (wrongSlices (length small) (length slots) (length prices)) ∷ []) (λ z. h (refusal-is ∙ z)) in
-        left (f .refusal) (planning ds p) h ∙ ap (λ n. madeOr n (planning ds p) small slots prices) (refusal-is ∙ sym due)
+        let due = first-due (planningChecks ds p) (check 13 (wrongSlices (length small) (length slots) (length cells)) ∷ []) (λ z. h (refusal-is ∙ z)) in
+        left (f .refusal) (planning ds p) h ∙ ap (λ n. madeOr n (planning ds p) small slots cells) (refusal-is ∙ sym due)
 
     module _ (h : f .refusal ≡ 0) where
-      due-is : (t : Bool) → wrongSlices (length small) (length slots) (length prices) ≡ t → first (check 13 t ∷ []) ≡ makeRefusal ds p (length small) (length slots) (length prices)
+      due-is : (t : Bool) → wrongSlices (length small) (length slots) (length cells) ≡ t → first (check 13 t ∷ []) ≡ makeRefusal ds p (length small) (length slots) (length cells)
       unfolding makeRefusal planningRefusal
       due-is t w =
-          let q = first-passed (planningChecks ds p) (check 13 (wrongSlices (length small) (length slots) (length prices)) ∷ []) planning-numbered (sym refusal-is ∙ h) in
+          let q = first-passed (planningChecks ds p) (check 13 (wrongSlices (length small) (length slots) (length cells)) ∷ []) (planning-numbered ds p) (sym refusal-is ∙ h) in
           sym (q ∙ ap (λ (u : Bool). first (check 13 u ∷ [])) w)
 
-      wrong : wrongSlices (length small) (length slots) (length prices) ≡ true → made 13 small slots prices ≡ making ds p small slots prices
+      wrong : wrongSlices (length small) (length slots) (length cells) ≡ true → made 13 small slots cells ≡ making ds p small slots cells
       unfolding making first
-      wrong w = left 13 (planning ds p) (λ z. omega arith) ∙ ap (λ n. madeOr n (planning ds p) small slots prices) (due-is true w)
+      wrong w = left 13 (planning ds p) (λ z. omega arith) ∙ ap (λ n. madeOr n (planning ds p) small slots cells) (due-is true w)
 
-      pub wrong-small : (length small ≡ 18 → ⊥) → made 13 small slots prices ≡ making ds p small slots prices
+      pub wrong-small : (length small ≡ 18 → ⊥) → made 13 small slots cells ≡ making ds p small slots cells
       unfolding wrongSlices
       wrong-small l = wrong (rw (ne-eqb (length small) 18 l) refl)
 
       module _ (s : length small ≡ 18) where
-        pub wrong-slots : (length slots ≡ 8 → ⊥) → made 13 small slots prices ≡ making ds p small slots prices
+        pub wrong-slots : (length slots ≡ 8 → ⊥) → made 13 small slots cells ≡ making ds p small slots cells
         unfolding wrongSlices
         wrong-slots l = wrong (rw (eq-eqb (length small) 18 s, ne-eqb (length slots) 8 l) refl)
 
         module _ (t : length slots ≡ 8) where
-          pub wrong-prices : (length prices ≡ 3 → ⊥) → made 13 small slots prices ≡ making ds p small slots prices
+          pub wrong-cells : (length cells ≡ 4 → ⊥) → made 13 small slots cells ≡ making ds p small slots cells
           unfolding wrongSlices
-          wrong-prices l = wrong (rw (eq-eqb (length small) 18 s, eq-eqb (length slots) 8 t, ne-eqb (length prices) 3 l) refl)
+          wrong-cells l = wrong (rw (eq-eqb (length small) 18 s, eq-eqb (length slots) 8 t, ne-eqb (length cells) 4 l) refl)
 
-          pub make-given : length prices ≡ 3 → (r : ℕ) (a b c : List ℕ) → a ≡ bytesOf (f .plan) → b ≡ f .plan .lengths
-              → r ≡ lentRefusal [] 3 (length prices) → c ≡ writtenOr r (cellsPriced (f .prices)) prices → made r a b c ≡ making ds p small slots prices
+          pub make-given : length cells ≡ 4 → (r : ℕ) (a b c : List ℕ) → a ≡ bytesOf (f .plan) → b ≡ f .plan .lengths
+              → r ≡ lentRefusal [] 4 (length cells) → c ≡ writtenOr r (cellsPlanned (f .prices) (f .idle)) cells → made r a b c ≡ making ds p small slots cells
           unfolding making madeOr wrongSlices lentRefusal writtenOr first
           make-given l r a b c ea eb er ec =
-              let z : r ≡ 0 = er ∙ rw (eq-eqb (length prices) 3 l) refl in
-              let k : c ≡ cellsPriced (f .prices) = rw z at ec in
-              let w : wrongSlices (length small) (length slots) (length prices) ≡ false = rw (eq-eqb (length small) 18 s, eq-eqb (length slots) 8 t, eq-eqb (length prices) 3 l) refl in
+              let z : r ≡ 0 = er ∙ rw (eq-eqb (length cells) 4 l) refl in
+              let k : c ≡ cellsPlanned (f .prices) (f .idle) = rw z at ec in
+              let w : wrongSlices (length small) (length slots) (length cells) ≡ false = rw (eq-eqb (length small) 18 s, eq-eqb (length slots) 8 t, eq-eqb (length cells) 4 l) refl in
               let d = due-is false w in
-              rw (z, ea, eb, k, e) (ap (λ n. madeOr n (planning ds p) small slots prices) d)
+              rw (z, ea, eb, k, e) (ap (λ n. madeOr n (planning ds p) small slots cells) d)
+
+-- ---- the idle boards
+
+module _ (bytes : List ℕ) (p : ℕ) (idle : List ℕ) (a : Asked) (e : a ≡ asking bytes p) where
+  pub idle-refused : (a .refusal ≡ 0 → ⊥) → (a .refusal ≡ idleRefusal bytes p (length idle)) × (idle ≡ idling bytes p idle)
+  unfolding idleRefusal idling askedRefusal
+  idle-refused h = lending.refused (askedChecks bytes p) 1 idle (a .refusal) (pairing.refusal-is bytes p a e) h _
+
+  pub idle-given : a .refusal ≡ 0 → (r : ℕ) (w : List ℕ) → r ≡ lentRefusal [] 1 (length idle) → w ≡ writtenOr r (a .idle ∷ []) idle
+      → (r ≡ idleRefusal bytes p (length idle)) × (w ≡ idling bytes p idle)
+  unfolding idleRefusal idling askedRefusal
+  idle-given h r w er ew =
+      let z : first (askedChecks bytes p) ≡ 0 = sym (pairing.refusal-is bytes p a e) ∙ h in
+      let i = ap (λ (n : ℕ). writtenOr r (n ∷ []) idle) (pairing.idle-is bytes p a e h) in
+      lending.passed (askedChecks bytes p) 1 idle (pairing.asked-numbered bytes p) z r _ w er (ew ∙ i)
 
 -- ---- the entries, of the plan q in the slices
 
@@ -168,58 +182,72 @@ granted checks more z =
     (λ t. eqb-true _ 0 t)
     (λ t. let ne = eqb-false (first checks) 0 t in absurd (ne (sym (first-due checks more ne) ∙ z)))
 
--- a plan and prices put in slices and read back
-back : (q : Plan) (c : Prices) (q′ : Plan) (c′ : Prices) → planFrom (bytesOf q) (q .lengths) ≡ q′ → c ≡ c′
-    → readBack (bytesOf q) (q .lengths) (cellsPriced c) ≡ record { refusal = 0; plan = q′; prices = c′ }
+-- a plan, its prices and the idle boards put in slices and read back
+back : (q : Plan) (c : Prices) (i : ℕ) (q′ : Plan) (c′ : Prices) (i′ : ℕ) → planFrom (bytesOf q) (q .lengths) ≡ q′ → c ≡ c′ → i ≡ i′
+    → readBack (bytesOf q) (q .lengths) (cellsPlanned c i) ≡ record { refusal = 0; plan = q′; prices = c′; idle = i′ }
 unfolding readBack
-back q c q′ c′ e f = ap₂ (λ (x : Plan) (y : Prices). record { refusal = 0; plan = x; prices = y }) e f
+back q c i q′ c′ i′ e f g = (λ j. record { refusal = 0; plan = e j; prices = f j; idle = g j })
 
 -- what planning writes is taken back as the planner's own plan, which no check of a plan refuses
 module _ (ds : List ℕ) (p : ℕ) where
-  pub made-plan : planningRefusal ds p ≡ 0 → planFrom (bytesOf (planning ds p .plan)) (planning ds p .plan .lengths) ≡ slotted (planOf ds p)
+  abbrev within : PlanLists
+  within = planWithin ds p
+
+  pub made-plan : planningRefusal ds p ≡ 0 → planFrom (bytesOf (planning ds p .plan)) (planning ds p .plan .lengths) ≡ slotted within
   unfolding planning slotted planOf
   made-plan e =
       let ok = planning-accepted ds p e in
       let few = ok .lengths .few in
-      let sound = plan-sound ds p (ok .lengths .some) (ok .enough) in
+      let sound = plan-sound ds (powerUsed ds p) (ok .lengths .some) (ok .enough) in
       let o = sound .places in
       let k = sound .each in
-      rw (plan-of (planningRefusal ds p) (planOf ds p) e)
-      (racking.taken-back (slotted (planOf ds p)) (padded-length (planOf ds p .order) (omega arith)) (padded-length (planOf ds p .exponents) (omega arith)) (padded-length ds few))
+      rw (plan-of (planningRefusal ds p) (idleBoards ds p) within e)
+      (racking.taken-back (slotted within) (padded-length (within .order) (omega arith)) (padded-length (within .exponents) (omega arith)) (padded-length ds few))
 
-  module _ (small slots prices : List ℕ) where
-    passes : makeRefusal ds p (length small) (length slots) (length prices) ≡ 0 → planningRefusal ds p ≡ 0
+  module _ (small slots cells : List ℕ) where
+    passes : makeRefusal ds p (length small) (length slots) (length cells) ≡ 0 → planningRefusal ds p ≡ 0
     unfolding makeRefusal planningRefusal
     passes z = granted (planningChecks ds p) _ z
 
-    pub make-taken : makeRefusal ds p (length small) (length slots) (length prices) ≡ 0
-        → planFrom (making ds p small slots prices .small) (making ds p small slots prices .slots) ≡ slotted (planOf ds p)
+    pub make-taken : makeRefusal ds p (length small) (length slots) (length cells) ≡ 0
+        → planFrom (making ds p small slots cells .small) (making ds p small slots cells .slots) ≡ slotted within
     unfolding making madeOr
     make-taken z = rw z (made-plan (passes z))
 
     -- answer 0 is no refusal
-    pub make-answer : making ds p small slots prices .answer ≡ 0 → makeRefusal ds p (length small) (length slots) (length prices) ≡ 0
+    pub make-answer : making ds p small slots cells .answer ≡ 0 → makeRefusal ds p (length small) (length slots) (length cells) ≡ 0
     unfolding making
-    make-answer e = sym (told (makeRefusal ds p (length small) (length slots) (length prices)) (planning ds p)) ∙ e
+    make-answer e = sym (told (makeRefusal ds p (length small) (length slots) (length cells)) (planning ds p)) ∙ e
       where
-        told : (n : ℕ) (a : Planned) → madeOr n a small slots prices .answer ≡ n
+        told : (n : ℕ) (a : Planned) → madeOr n a small slots cells .answer ≡ n
         told zero a = unfold madeOr in refl
         told (suc n) a = unfold madeOr in refl
 
     -- the answer that a caller reads back is planning's own
-    pub make-planned : makeRefusal ds p (length small) (length slots) (length prices) ≡ 0
-        → readBack (making ds p small slots prices .small) (making ds p small slots prices .slots) (making ds p small slots prices .prices) ≡ planning ds p
+    pub make-planned : makeRefusal ds p (length small) (length slots) (length cells) ≡ 0
+        → readBack (making ds p small slots cells .small) (making ds p small slots cells .slots) (making ds p small slots cells .cells) ≡ planning ds p
     unfolding making madeOr
     make-planned z =
         let e = passes z in
-        let r : planning ds p ≡ plannedAs 0 (planOf ds p) = (unfold planning in ap (λ k. plannedAs k (planOf ds p)) e) in
-        let c : planning ds p .prices ≡ pricesOf (planOf ds p) = (unfold planning in prices-of _ (planOf ds p) e) in
-        let s : record { refusal = 0; plan = slotted (planOf ds p); prices = pricesOf (planOf ds p) } ≡ plannedAs 0 (planOf ds p) = (unfold plannedAs in refl) in
-        rw z (back (planning ds p .plan) (planning ds p .prices) (slotted (planOf ds p)) (pricesOf (planOf ds p)) (made-plan e) c ∙ s ∙ sym r)
+        let i = idleBoards ds p in
+        let r : planning ds p ≡ plannedAs 0 i within = (unfold planning in ap (λ k. plannedAs k i within) e) in
+        let c : planning ds p .prices ≡ pricesOf within = (unfold planning in prices-of _ i within e) in
+        let k : planning ds p .idle ≡ i = (unfold planning in idle-of _ i within e) in
+        let s : record { refusal = 0; plan = slotted within; prices = pricesOf within; idle = i } ≡ plannedAs 0 i within = (unfold plannedAs in refl) in
+        rw z (back (planning ds p .plan) (planning ds p .prices) (planning ds p .idle) (slotted within) (pricesOf within) i (made-plan e) c k ∙ s ∙ sym r)
 
-    pub make-accepted : makeRefusal ds p (length small) (length slots) (length prices) ≡ 0
-        → planRefusal (planFrom (making ds p small slots prices .small) (making ds p small slots prices .slots)) ≡ 0
+    pub make-accepted : makeRefusal ds p (length small) (length slots) (length cells) ≡ 0
+        → planRefusal (planFrom (making ds p small slots cells .small) (making ds p small slots cells .slots)) ≡ 0
     make-accepted z = rw (make-taken z) (planned-accepted ds p (passes z))
+
+-- "7 is no longer given"
+pub never-make : (ds : List ℕ) (p small slots cells : ℕ) → makeRefusal ds p small slots cells ≡ 7 → ⊥
+unfolding makeRefusal planningChecks lengthChecks lacks
+never-make ds p small slots cells = never 7 (planningChecks ds p ++ (check 13 (wrongSlices small slots cells) ∷ [])) (omega arith) refl
+
+pub never-idle : (bytes : List ℕ) (p lent : ℕ) → idleRefusal bytes p lent ≡ 7 → ⊥
+unfolding idleRefusal lentRefusal askedChecks planningChecks lengthChecks lacks
+never-idle bytes p lent = never 7 (askedChecks bytes p ++ (check 13 (not (eqb lent 1)) ∷ [])) (omega arith) refl
 
 view-granted : (q : Plan) (work at b lent : ℕ) → partRefusal q work at b lent ≡ 0 → viewRefusal q work at b ≡ 0
 unfolding partRefusal lentRefusal viewRefusal

@@ -6,7 +6,7 @@ use lib.ListN.{replicate}
 use lib.IntN.{pos}
 use Rattle.plan_spec.specs.declared.types.Plan.{Plan}
 use Rattle.campaign_slices.specs.Racks.{planFrom}
-use Rattle.campaign.specs.Calls.{makeRefusal, made, making, runRefusal, ran, running, partRefusal, parting}
+use Rattle.campaign.specs.Calls.{makeRefusal, made, making, idleRefusal, idling, runRefusal, ran, running, partRefusal, parting}
 use Rattle.campaign.specs.Computing.{computing}
 
 abbrev slots : ℕ → ℕ → List ℕ
@@ -18,15 +18,26 @@ bytes = 2 ∷ 1 ∷ (slots 1 0 ++ slots 0 1)
 abbrev small : Plan
 small = planFrom bytes (slots 3 5)
 
--- planning: no room for p before the slices; each slice of another length
-planned : (makeRefusal (3 ∷ 5 ∷ []) 4 1 1 1 ≡ 7)
-    × (makeRefusal (3 ∷ 5 ∷ []) 1 17 8 3 ≡ 13)
-    × (makeRefusal (3 ∷ 5 ∷ []) 1 18 9 3 ≡ 13)
-    × (makeRefusal (3 ∷ 5 ∷ []) 1 18 8 2 ≡ 13)
-    × (making (3 ∷ 5 ∷ []) 1 (replicate 18 9) (replicate 8 9) (replicate 3 9) ≡ made 0 bytes (slots 3 5) (3 ∷ 33 ∷ 6 ∷ []))
-    × (making (3 ∷ 5 ∷ []) 4 (7 ∷ []) (8 ∷ []) (9 ∷ []) ≡ made 7 (7 ∷ []) (8 ∷ []) (9 ∷ []))
+-- planning: p over 10 before the slices; each slice of another length; all boards in use, and 8 of 16
+planned : (makeRefusal (3 ∷ 5 ∷ []) 11 1 1 1 ≡ 6)
+    × (makeRefusal (3 ∷ 5 ∷ []) 1 17 8 4 ≡ 13)
+    × (makeRefusal (3 ∷ 5 ∷ []) 1 18 9 4 ≡ 13)
+    × (makeRefusal (3 ∷ 5 ∷ []) 1 18 8 3 ≡ 13)
+    × (making (3 ∷ 5 ∷ []) 1 (replicate 18 9) (replicate 8 9) (replicate 4 9) ≡ made 0 bytes (slots 3 5) (3 ∷ 33 ∷ 6 ∷ 0 ∷ []))
+    × (making (3 ∷ 5 ∷ []) 4 (replicate 18 9) (replicate 8 9) (replicate 4 9) ≡ made 0 (2 ∷ 3 ∷ (slots 1 0 ++ slots 1 2)) (slots 3 5) (15 ∷ 33 ∷ 4 ∷ 8 ∷ []))
+    × (making (3 ∷ 5 ∷ []) 11 (7 ∷ []) (8 ∷ []) (9 ∷ []) ≡ made 6 (7 ∷ []) (8 ∷ []) (9 ∷ []))
 unfolding computing
-planned = (refl, refl, refl, refl, refl, refl)
+planned = (refl, refl, refl, refl, refl, refl, refl)
+
+-- the idle boards of a controller: an odd number of bytes, p over 10, both before the slice; a slice too long; 8 of 16, none of 2
+idle : (idleRefusal (3 ∷ 0 ∷ 5 ∷ []) 4 0 ≡ 3)
+    × (idleRefusal (3 ∷ 0 ∷ 5 ∷ 0 ∷ []) 11 0 ≡ 6)
+    × (idleRefusal (3 ∷ 0 ∷ 5 ∷ 0 ∷ []) 4 2 ≡ 13)
+    × (idling (3 ∷ 0 ∷ 5 ∷ 0 ∷ []) 4 (9 ∷ 9 ∷ []) ≡ (9 ∷ 9 ∷ []))
+    × (idling (3 ∷ 0 ∷ 5 ∷ 0 ∷ []) 4 (9 ∷ []) ≡ (8 ∷ []))
+    × (idling (3 ∷ 0 ∷ 5 ∷ 0 ∷ []) 1 (9 ∷ []) ≡ (0 ∷ []))
+unfolding computing
+idle = (refl, refl, refl, refl, refl, refl)
 
 -- step: no axes, a point too few, a cell too few, past T, the slice last; a refused step leaves memory, position and slice
 stepped : (runRefusal (planFrom (replicate 18 0) (replicate 8 0)) 15 12 0 4 ≡ 3)

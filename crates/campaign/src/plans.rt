@@ -3,10 +3,13 @@ ghost use mathlib.Core.Path.{_≡_};
 ghost use lib.ListN.{length};
 ghost use Rattle.controller.specs.Bytes.{controllerRefusal, written};
 ghost use Rattle.campaign_slices.specs.Racks.{planFrom, priceRefusal, priced};
-ghost use Rattle.campaign.specs.Calls.{made, making};
+ghost use Rattle.campaign.specs.Calls.{idleRefusal, idling, made, making};
 use campaign_slices::plan_from;
+use campaign_slices::put_number;
 use campaign_slices::put_plan;
+use campaign_slices::put_planned;
 use campaign_slices::put_prices;
+use controller::asked;
 use plan_entry::planning::plan;
 use plan_price::pricing::price;
 use plan_spec::types::Priced;
@@ -21,17 +24,30 @@ pub extern "C" fn campaign_plan(lengths: &[u8], p: u8, result: &mut [u8]) -> u8
     controller::campaign_plan(lengths, p, result)
 }
 
-// Planning with prices: two slices get the plan, and three cells the values moved, the cells added up and A.
+// How many of the boards that a controller asks for stand idle: a slice of one cell gets their number.
+#[no_mangle]
+pub extern "C" fn campaign_idle(lengths: &[u8], p: u8, idle: &mut [u64]) -> u8
+    ensures { λ r. ⌜ (r ≡ idleRefusal (now (lengths .entry)) p (length (now (idle .entry))))
+        × (now (idle .exit) ≡ idling (now (lengths .entry)) p (now (idle .entry))) ⌝ }
+{
+    let found = asked(lengths, p);
+    if found.refusal != 0 {
+        return found.refusal;
+    }
+    put_number(idle, found.idle as u64)
+}
+
+// Planning with prices: two slices get the plan, and four cells the values moved, the cells added up, A and the idle boards.
 #[no_mangle]
 pub extern "C" fn campaign_make(
     lengths: &[u32],
     p: u8,
     small: &mut [u8],
     slots: &mut [u32],
-    prices: &mut [u64],
+    cells: &mut [u64],
 ) -> u8
-    ensures { λ r. ⌜ made r (now (small .exit)) (now (slots .exit)) (now (prices .exit))
-        ≡ making (now (lengths .entry)) p (now (small .entry)) (now (slots .entry)) (now (prices .entry)) ⌝ }
+    ensures { λ r. ⌜ made r (now (small .exit)) (now (slots .exit)) (now (cells .exit))
+        ≡ making (now (lengths .entry)) p (now (small .entry)) (now (slots .entry)) (now (cells .entry)) ⌝ }
 {
     let found = plan(lengths, p);
     if found.refusal != 0 {
@@ -43,13 +59,13 @@ pub extern "C" fn campaign_make(
     if slots.len() != 8 {
         return 13;
     }
-    if prices.len() != 3 {
+    if cells.len() != 4 {
         return 13;
     }
     let planned = found.plan;
     let cost = found.prices;
     put_plan(small, slots, planned);
-    put_prices(prices, cost)
+    put_planned(cells, cost, found.idle)
 }
 
 // Pricing: three cells get the values moved, the cells added up and A.

@@ -92,10 +92,11 @@ two-cells (x ∷ y ∷ z ∷ s) a b h = absurd (omega arith)
 
 pub three-cells : (s : List ℕ) (a b c : ℕ) → length s ≡ 3 → set (set (set s 0 a) 1 b) 2 c ≡ a ∷ b ∷ c ∷ []
 three-cells [] a b c h = absurd (omega arith)
-three-cells (x ∷ []) a b c h = absurd (omega arith)
-three-cells (x ∷ y ∷ []) a b c h = absurd (omega arith)
-three-cells (x ∷ y ∷ z ∷ []) a b c h = refl
-three-cells (x ∷ y ∷ z ∷ w ∷ s) a b c h = absurd (omega arith)
+three-cells (x ∷ s) a b c h = ap (λ (l : List ℕ). a ∷ l) (two-cells s b c (omega arith))
+
+pub four-cells : (s : List ℕ) (a b c d : ℕ) → length s ≡ 4 → set (set (set (set s 0 a) 1 b) 2 c) 3 d ≡ a ∷ b ∷ c ∷ d ∷ []
+four-cells [] a b c d h = absurd (omega arith)
+four-cells (x ∷ s) a b c d h = ap (λ (l : List ℕ). a ∷ l) (three-cells s b c d (omega arith))
 
 -- ---- the refusals
 

@@ -68,6 +68,10 @@ cellsTold (refused n) = 5 ∷ 0 ∷ 0 ∷ 0 ∷ n ∷ []
 abbrev pub cellsPriced : Prices → List ℕ
 cellsPriced c = c .moved ∷ c .added ∷ c .share ∷ []
 
+-- what planning tells beside a plan: its prices, and the idle boards
+abbrev pub cellsPlanned : Prices → ℕ → List ℕ
+cellsPlanned c idle = c .moved ∷ c .added ∷ c .share ∷ idle ∷ []
+
 -- the lent slice afterwards: the cells, or as it was on a refusal
 unfoldable pub priced : Plan → List ℕ → List ℕ
 priced q out = writtenOr (priceRefusal q (length out)) (cellsPriced (pricesOf (listsOf q))) out

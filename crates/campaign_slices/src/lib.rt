@@ -8,7 +8,7 @@ ghost use lib.Seq.{sets};
 ghost use Rattle.rack_spec.specs.Answers.{told};
 ghost use Rattle.campaign_slices.specs.Lent.{lentRefusal, writtenOr};
 ghost use Rattle.campaign_slices.specs.Scans.{cells, cellsOf};
-ghost use Rattle.campaign_slices.specs.Racks.{noPlan, planFrom, bytesOf, cellsTold, cellsPriced};
+ghost use Rattle.campaign_slices.specs.Racks.{noPlan, planFrom, bytesOf, cellsTold, cellsPriced, cellsPlanned};
 use plan_spec::types::Plan;
 use plan_spec::types::Prices;
 use rack_spec::types::Step;
@@ -199,6 +199,21 @@ pub fn put_prices(out: &mut [u64], prices: Prices) -> u8
     out[0] = prices.moved;
     out[1] = prices.added;
     out[2] = prices.share;
+    0
+}
+
+// Puts a plan's prices and the idle boards in a slice of four cells.
+pub fn put_planned(out: &mut [u64], prices: Prices, idle: u32) -> u8
+    ensures { λ r. ⌜ (r ≡ lentRefusal [] 4 (length (now (out .entry))))
+        × (now (out .exit) ≡ writtenOr r (cellsPlanned prices idle) (now (out .entry))) ⌝ }
+{
+    if out.len() != 4 {
+        return 13;
+    }
+    out[0] = prices.moved;
+    out[1] = prices.added;
+    out[2] = prices.share;
+    out[3] = idle as u64;
     0
 }
 

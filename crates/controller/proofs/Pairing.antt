@@ -1,24 +1,30 @@
--- Lengths as pairs of bytes, and the refusal of the controller's planning, check by check.
-use Prim.Native.Nat.{ℕ, zero, suc, _+_, _-_, _*_, _/_, _%_, _≤_, _<_}
+-- Lengths as pairs of bytes, what is asked for by them, and the refusal of the controller's planning.
+use Prim.Native.Nat.{ℕ, zero, suc, _+_, _-_, _*_, _/_, _%_, _^_, _≤_, _<_}
 use mathlib.Core.Path.{_≡_, sym, _∙_, refl, ap, ap₂}
-use mathlib.Core.Bool.{Bool, true, false, _||_, not}
+use mathlib.Core.Bool.{true, false}
 use mathlib.Core.List.{List, [], _∷_, _++_, append-nil}
 use native.Mathlib.Nat.{zero-add}
 use native.Mathlib.Omega.{arith}
-use borrow.Author.Tests.{eq-eqb, ne-eqb, lt-ltb}
-use lib.Dec.{eqb, ltb}
-use lib.ListN.{length, getD, take, drop, drop-of-length-le}
+use borrow.Author.Tests.{eq-eqb, ne-eqb, eqb-false}
+use lib.Dec.{eqb}
+use lib.ListN.{length, getD, take, drop, replicate, drop-of-length-le}
 use lib.Seq.{paste, take-paste, length-paste}
-use Rattle.cube_spec.specs.Limits.{padded}
+use Rattle.cube_spec.specs.Limits.{axisLimit, padded}
 use Rattle.cube_spec.specs.Bytes.{little}
 use Rattle.cube_spec.specs.Boxes.{pick, table}
 use Rattle.cube_spec.specs.Checks.{check, first}
 use Rattle.cube_spec.proofs.Slots.{padded-length, padded-all, padded-take}
+use Rattle.cube_spec.proofs.Dues.{Numbered, first-due, first-passed, none-first, none-both, lacks, never}
 use Rattle.plan_spec.specs.declared.types.Arrangement.{Arrangement}
 use Rattle.plan_spec.specs.Answers.{arrangement}
-use Rattle.plan_spec.specs.Rule.{order, orderedExponents}
-use Rattle.plan_spec.specs.Refusals.{some, badAxes, badLength, tooManyPoints, tooManyBoards, noRoom, lengthChecks, planningChecks, planningRefusal}
-use Rattle.controller.specs.Bytes.{pairs, oddBytes, wrongResult, controllerChecks, controllerRefusal, writtenOr, written}
+use Rattle.plan_spec.specs.Rule.{order, orderedExponents, powerUsed, idleBoards}
+use Rattle.plan_spec.specs.Refusals.{lengthChecks, planningChecks, planningRefusal}
+use Rattle.plan_spec.proofs.Accepting.{planning-numbered, planning-passed}
+use Rattle.plan_spec.proofs.Answering.{too-many}
+use Rattle.plan_spec.proofs.Places.{order-length}
+use Rattle.plan_spec.proofs.Chosen.{exponents-length}
+use Rattle.controller.specs.declared.types.Asked.{Asked}
+use Rattle.controller.specs.Bytes.{pairs, oddBytes, askedChecks, askedRefusal, askedAs, asking, wrongResult, controllerChecks, controllerRefusal, writtenOr, written}
 
 -- ---- pairs
 
@@ -46,77 +52,130 @@ pairs-at (suc n) (a ∷ b ∷ r) (suc i) e h =
 pub pairs-slots : (n : ℕ) (bytes : List ℕ) → length bytes ≡ n + n → padded (table n (λ i. getD (pairs bytes) i 0)) ≡ padded (pairs bytes)
 pairs-slots n bytes e = padded-all (pairs bytes) n (pairs-length n bytes e)
 
--- ---- the refusal
+pub taken-back : (n : ℕ) (bytes slots : List ℕ) → length bytes ≡ n + n → n ≤ axisLimit → slots ≡ padded (pairs bytes) → take n slots ≡ pairs bytes
+taken-back n bytes slots e fits es = ap (take n) es ∙ padded-take (pairs bytes) n (pairs-length n bytes e) fits
 
--- 3 to 7, and what comes after them
-picks : Bool → Bool → Bool → Bool → Bool → ℕ → ℕ
-picks a b c d e x = pick a 3 (pick b 4 (pick c 5 (pick d 6 (pick e 7 x))))
+-- ---- what is asked for
 
-picks-past : (a b c d e : Bool) (x : ℕ) → picks a b c d e 0 ≡ 0 → picks a b c d e x ≡ x
-unfolding picks
-picks-past true b c d e x h = absurd (omega arith)
-picks-past false true c d e x h = absurd (omega arith)
-picks-past false false true d e x h = absurd (omega arith)
-picks-past false false false true e x h = absurd (omega arith)
-picks-past false false false false true x h = absurd (omega arith)
-picks-past false false false false false x h = refl
-
-picks-at : (a b c d e : Bool) (x : ℕ) → (picks a b c d e 0 ≡ 0 → ⊥) → picks a b c d e x ≡ picks a b c d e 0
-unfolding picks
-picks-at true b c d e x h = refl
-picks-at false true c d e x h = refl
-picks-at false false true d e x h = refl
-picks-at false false false true e x h = refl
-picks-at false false false false true x h = refl
-picks-at false false false false false x h = absurd (h refl)
-
-module _ (bytes : List ℕ) (p m : ℕ) where
+module _ (bytes : List ℕ) (p : ℕ) where
   abbrev ds : List ℕ
   ds = pairs bytes
 
-  abbrev tested : ℕ → ℕ
-  tested x = picks (badAxes (length ds)) (some badLength ds) (tooManyPoints ds) (tooManyBoards p) (noRoom ds p) x
+  pub asked-numbered : Numbered (askedChecks bytes p)
+  unfolding askedChecks
+  asked-numbered = (omega arith, planning-numbered ds p)
 
-  planning-split : planningRefusal ds p ≡ tested 0
-  unfolding planningRefusal planningChecks lengthChecks first picks
-  planning-split = refl
-
-  split : controllerRefusal bytes p m ≡ pick (oddBytes bytes) 3 (tested (pick (wrongResult ds m) 13 0))
-  unfolding controllerRefusal controllerChecks planningChecks lengthChecks first picks
-  split = refl
-
-  pub refuses-odd : length bytes % 2 ≡ 1 → 3 ≡ controllerRefusal bytes p m
-  refuses-odd e = sym (split ∙ (let q : oddBytes bytes ≡ true = (unfold oddBytes in eq-eqb (length bytes % 2) 1 e) in rw q))
+  pub asks-odd : length bytes % 2 ≡ 1 → 3 ≡ askedRefusal bytes p
+  unfolding askedRefusal askedChecks first oddBytes
+  asks-odd e = rw (eq-eqb (length bytes % 2) 1 e) refl
 
   module _ (n : ℕ) (even : length bytes ≡ n + n) where
-    not-odd : oddBytes bytes ≡ false
-    unfolding oddBytes
-    not-odd = ne-eqb (length bytes % 2) 1 (λ z. let q : (n + n) % 2 ≡ 1 = (rw even at z) in omega arith)
+    -- of an even number of bytes the refusal is planning's
+    pub asks-planning : planningRefusal ds p ≡ askedRefusal bytes p
+    unfolding askedRefusal askedChecks planningRefusal first oddBytes
+    asks-planning = rw (ne-eqb (length bytes % 2) 1 (λ z. let q : (n + n) % 2 ≡ 1 = rw even at z in omega arith)) refl
 
-    pub refuses-many : 8 < n → 3 ≡ controllerRefusal bytes p m
-    refuses-many h =
+    pub asks-many : axisLimit < n → 3 ≡ askedRefusal bytes p
+    asks-many h = too-many ds p (let l = pairs-length n bytes even in omega arith) ∙ asks-planning
+
+  -- without a refusal the bytes are pairs of no more axes than there may be, and planning refuses nothing
+  pub asks-none : askedRefusal bytes p ≡ 0 → planningRefusal ds p ≡ 0
+  unfolding askedRefusal askedChecks planningRefusal
+  asks-none z = none-first (check 3 (oddBytes bytes)) (planningChecks ds p) (omega arith) z .1
+
+  pub even-bytes : askedRefusal bytes p ≡ 0 → length bytes ≡ length bytes / 2 + length bytes / 2
+  unfolding askedRefusal askedChecks oddBytes
+  even-bytes z =
+      let d = none-first (check 3 (eqb (length bytes % 2) 1)) (planningChecks ds p) (omega arith) z .0 in
+      let o = eqb-false (length bytes % 2) 1 d in
+      omega (arith, o)
+
+  pub few-axes : askedRefusal bytes p ≡ 0 → length bytes / 2 ≤ axisLimit
+  few-axes z =
+      let l = pairs-length (length bytes / 2) bytes (even-bytes z) in
+      let f = planning-passed ds p (asks-none z) .0 .few in
+      omega arith
+
+-- the answer carries the refusal; without one it has the lengths, the p used and the idle boards
+pub blank : (n : ℕ) → 0 < n → (l : List ℕ) (p : ℕ) → _≡_ {A = Asked} (record { refusal = n; used = 0; idle = 0; lengths = replicate axisLimit 0 }) (askedAs n l p)
+blank zero h l p = absurd (omega arith)
+blank (suc n) h l p = unfold askedAs padded in refl
+
+refusal-of : (n : ℕ) (l : List ℕ) (p : ℕ) → askedAs n l p .refusal ≡ n
+refusal-of zero l p = unfold askedAs in refl
+refusal-of (suc n) l p = unfold askedAs in refl
+
+module _ (bytes : List ℕ) (p : ℕ) where
+  pub asked-as : (r : Asked) (n : ℕ) → ((l : List ℕ) (q : ℕ) → r ≡ askedAs n l q) → n ≡ askedRefusal bytes p → r ≡ asking bytes p
+  unfolding asking
+  asked-as r n h e = h (pairs bytes) p ∙ ap (λ k. askedAs k (pairs bytes) p) e
+
+  pub asked-given : 0 ≡ askedRefusal bytes p → (u i : ℕ) (slots : List ℕ) → u ≡ powerUsed (pairs bytes) p → i ≡ 2 ^ p - 2 ^ u → slots ≡ padded (pairs bytes)
+      → _≡_ {A = Asked} (record { refusal = 0; used = u; idle = i; lengths = slots }) (asking bytes p)
+  unfolding asking askedAs idleBoards
+  asked-given z u i slots eu ei es =
+      let f : i ≡ 2 ^ p - 2 ^ powerUsed (pairs bytes) p = ei ∙ ap (λ k. 2 ^ p - 2 ^ k) eu in
+      (λ j. record { refusal = 0; used = eu j; idle = f j; lengths = es j }) ∙ ap (λ k. askedAs k (pairs bytes) p) z
+
+  module _ (a : Asked) (e : a ≡ asking bytes p) where
+    pub refusal-is : a .refusal ≡ askedRefusal bytes p
+    unfolding asking
+    refusal-is = ap (λ (x : Asked). x .refusal) e ∙ refusal-of (askedRefusal bytes p) (pairs bytes) p
+
+    module _ (z : a .refusal ≡ 0) where
+      given : a ≡ askedAs 0 (pairs bytes) p
+      unfolding asking
+      given = e ∙ ap (λ k. askedAs k (pairs bytes) p) (sym refusal-is ∙ z)
+
+      pub used-is : a .used ≡ powerUsed (pairs bytes) p
+      unfolding askedAs
+      used-is = ap (λ (x : Asked). x .used) given
+
+      pub idle-is : a .idle ≡ idleBoards (pairs bytes) p
+      unfolding askedAs
+      idle-is = ap (λ (x : Asked). x .idle) given
+
+      pub lengths-are : a .lengths ≡ padded (pairs bytes)
+      unfolding askedAs
+      lengths-are = ap (λ (x : Asked). x .lengths) given
+
+-- ---- the refusal of planning over bytes
+
+module _ (bytes : List ℕ) (p m : ℕ) where
+  pub refuses-asked : (r : ℕ) → r ≡ askedRefusal bytes p → (r ≡ 0 → ⊥) → r ≡ controllerRefusal bytes p m
+  unfolding controllerRefusal controllerChecks askedRefusal
+  refuses-asked r e h = e ∙ sym (first-due (askedChecks bytes p) _ (λ z. h (e ∙ z)))
+
+  -- no refusal: none of what is asked for
+  pub granted : controllerRefusal bytes p m ≡ 0 → askedRefusal bytes p ≡ 0
+  unfolding controllerRefusal controllerChecks askedRefusal
+  granted z = none-both (askedChecks bytes p) _ (asked-numbered bytes p) z .0
+
+  module _ (fine : askedRefusal bytes p ≡ 0) (n : ℕ) (even : length bytes ≡ n + n) where
+    past : controllerRefusal bytes p m ≡ pick (wrongResult (pairs bytes) m) 13 0
+    unfolding controllerRefusal controllerChecks askedRefusal first
+    past = first-passed (askedChecks bytes p) (check 13 (wrongResult (pairs bytes) m) ∷ []) (asked-numbered bytes p) fine
+
+    pub refuses-result : (m ≡ n + n → ⊥) → 13 ≡ controllerRefusal bytes p m
+    refuses-result h =
         let l = pairs-length n bytes even in
-        let q : badAxes (length ds) ≡ true = (unfold badAxes in rw (l, ne-eqb n 0 (λ z. omega arith), lt-ltb 8 n h)) in
-        sym (split ∙ (rw (not-odd, q) (unfold picks in refl)))
+        let q : wrongResult (pairs bytes) m ≡ true = (unfold wrongResult in rw (l, ne-eqb m (2 * n) (λ z. h (omega arith)))) in
+        sym (past ∙ (rw q))
 
-    pub refuses-planning : (r : ℕ) → r ≡ planningRefusal ds p → (r ≡ 0 → ⊥) → r ≡ controllerRefusal bytes p m
-    refuses-planning r e h = sym (split ∙ (rw not-odd (picks-at _ _ _ _ _ (pick (wrongResult ds m) 13 0) (λ z. h (e ∙ planning-split ∙ z)) ∙ sym planning-split ∙ sym e)))
+    pub refuses-nothing : m ≡ n + n → 0 ≡ controllerRefusal bytes p m
+    refuses-nothing h =
+        let l = pairs-length n bytes even in
+        let q : wrongResult (pairs bytes) m ≡ false = (unfold wrongResult in rw (l, eq-eqb m (2 * n) (omega arith))) in
+        sym (past ∙ (rw q))
 
-    module _ (fine : 0 ≡ planningRefusal ds p) where
-      past : controllerRefusal bytes p m ≡ pick (wrongResult ds m) 13 0
-      past = split ∙ (rw not-odd (picks-past _ _ _ _ _ (pick (wrongResult ds m) 13 0) (sym planning-split ∙ sym fine)))
+-- "7 is no longer given": nor for what is asked for alone
+pub never-asked : (bytes : List ℕ) (p : ℕ) → askedRefusal bytes p ≡ 7 → ⊥
+unfolding askedRefusal askedChecks planningChecks lengthChecks lacks
+never-asked bytes p = never 7 (askedChecks bytes p) (omega arith) refl
 
-      pub refuses-result : (m ≡ n + n → ⊥) → 13 ≡ controllerRefusal bytes p m
-      refuses-result h =
-          let l = pairs-length n bytes even in
-          let q : wrongResult ds m ≡ true = (unfold wrongResult in rw (l, ne-eqb m (2 * n) (λ z. h (omega arith)))) in
-          sym (past ∙ (rw q))
-
-      pub refuses-nothing : m ≡ n + n → 0 ≡ controllerRefusal bytes p m
-      refuses-nothing h =
-          let l = pairs-length n bytes even in
-          let q : wrongResult ds m ≡ false = (unfold wrongResult in rw (l, eq-eqb m (2 * n) (omega arith))) in
-          sym (past ∙ (rw q))
+pub never-controller : (bytes : List ℕ) (p m : ℕ) → controllerRefusal bytes p m ≡ 7 → ⊥
+unfolding controllerRefusal controllerChecks askedChecks planningChecks lengthChecks lacks
+never-controller bytes p m = never 7 (controllerChecks bytes p m) (omega arith) refl
 
 -- ---- the result
 
@@ -137,13 +196,29 @@ two-pastes out a b n h ha hb =
     let d′ = simp zero-add at d in
     simp (zero-add, t, d′, append-nil)
 
-pub put-both : (bytes : List ℕ) (p n : ℕ) (result o k : List ℕ) → 0 ≡ controllerRefusal bytes p (length result) → length result ≡ n + n → n ≤ 8
-    → o ≡ padded (order (pairs bytes)) → k ≡ padded (orderedExponents (pairs bytes) p) → length (order (pairs bytes)) ≡ n → length (orderedExponents (pairs bytes) p) ≡ n
-    → paste (paste result 0 o n) n k n ≡ written bytes p result
-unfolding written
-put-both bytes p n result o k z l fits eo ek lo lk =
-    rw (← z) (unfold writtenOr in (two-pastes result o k n l (let q = padded-length (order (pairs bytes)) in rw eo (omega arith)) (let q = padded-length (orderedExponents (pairs bytes) p) in rw ek (omega arith)) ∙ ap₂ _++_ (ap (take n) eo ∙ padded-take (order (pairs bytes)) n lo fits) (ap (take n) ek ∙ padded-take (orderedExponents (pairs bytes) p) n lk fits)))
+-- the order and the exponents of the p used, put one after the other, are what is written
+module _ (bytes : List ℕ) (p u n : ℕ) (result : List ℕ) (used : u ≡ powerUsed (pairs bytes) p) (v : Arrangement) (l : List ℕ)
+    (arranged : v ≡ arrangement l u) (same : l ≡ pairs bytes) where
+  abbrev ds′ : List ℕ
+  ds′ = pairs bytes
 
-pub arrays : (v : Arrangement) (l ds : List ℕ) (p : ℕ) → v ≡ arrangement l p → l ≡ ds → (v .order ≡ padded (order ds)) × (v .exponents ≡ padded (orderedExponents ds p))
-unfolding arrangement
-arrays v l ds p e q = (ap (λ (w : Arrangement). w .order) e ∙ ap (λ x. padded (order x)) q, ap (λ (w : Arrangement). w .exponents) e ∙ ap (λ x. padded (orderedExponents x p)) q)
+  ordered : v .order ≡ padded (order ds′)
+  unfolding arrangement
+  ordered = ap (λ (w : Arrangement). w .order) arranged ∙ ap (λ x. padded (order x)) same
+
+  cut : v .exponents ≡ padded (orderedExponents ds′ u)
+  unfolding arrangement
+  cut = ap (λ (w : Arrangement). w .exponents) arranged ∙ ap (λ x. padded (orderedExponents x u)) same
+
+  pub put-both : 0 ≡ controllerRefusal bytes p (length result) → length result ≡ n + n → n ≤ axisLimit → length ds′ ≡ n
+      → paste (paste result 0 (v .order) n) n (v .exponents) n ≡ written bytes p result
+  unfolding written writtenOr
+  put-both z e fits en =
+      let lo = order-length ds′ ∙ en in
+      let lk = exponents-length ds′ u ∙ en in
+      let wide : n ≤ length (v .order) = (let q = padded-length (order ds′) in rw ordered (omega arith)) in
+      let wide′ : n ≤ length (v .exponents) = (let q = padded-length (orderedExponents ds′ u) in rw cut (omega arith)) in
+      let both = two-pastes result (v .order) (v .exponents) n e wide wide′ in
+      let first′ = ap (take n) ordered ∙ padded-take (order ds′) n lo fits in
+      let second = ap (take n) cut ∙ padded-take (orderedExponents ds′ u) n lk fits in
+      rw (← z) (both ∙ ap₂ _++_ first′ second ∙ ap (λ y. order ds′ ++ orderedExponents ds′ y) used)

@@ -4,5 +4,5 @@ use Rattle.controller.specs.Bytes
 use Rattle.plan_spec.specs.Computing as plan_spec
 
 unfoldable pub computing : ℕ
-unfolding Bytes.pairs Bytes.oddBytes Bytes.wrongResult Bytes.controllerChecks Bytes.controllerRefusal Bytes.writtenOr Bytes.written Bytes.planIn plan_spec.computing
+unfolding Bytes.pairs Bytes.oddBytes Bytes.askedChecks Bytes.askedRefusal Bytes.askedAs Bytes.asking Bytes.wrongResult Bytes.controllerChecks Bytes.controllerRefusal Bytes.writtenOr Bytes.written Bytes.planIn plan_spec.computing
 computing = 0

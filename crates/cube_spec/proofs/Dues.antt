@@ -1,11 +1,15 @@
 -- Lists of checks, one after the other: the first that is due decides, and a list of which none is due is passed over.
-use Prim.Native.Nat.{_<_}
-use mathlib.Core.Path.{_≡_, refl}
-use mathlib.Core.Bool.{false}
+use Prim.Native.Nat.{ℕ, _<_}
+use mathlib.Core.Path.{_≡_, refl, sym}
+use mathlib.Core.Bool.{Bool, true, false}
 use mathlib.Core.List.{List, [], _∷_, _++_}
 use native.Mathlib.Omega.{arith}
+use borrow.Author.Tests.{eqb-false}
+use lib.Dec.{eqb}
+use Rattle.cube_spec.specs.Boxes.{pick}
 use Rattle.cube_spec.specs.Checks.{Check, first}
 use Rattle.cube_spec.proofs.Sums.{by}
+use Rattle.cube_spec.proofs.Naturals.{clash}
 
 -- no check has the number 0
 abbrev pub Numbered : List Check → Type 0
@@ -39,3 +43,21 @@ none-both (c ∷ l) r n h =
     let d = none-first c (l ++ r) (n .0) h in
     let i = none-both l r (n .1) (d .1) in
     (rw (d .0) (i .0), i .1)
+
+-- a number that no check of a list has is never given
+unfoldable pub lacks : ℕ → List Check → Bool
+lacks n [] = true
+lacks n (c ∷ l) = pick (eqb (c .number) n) false (lacks n l)
+
+pub never : (n : ℕ) (l : List Check) → 0 < n → lacks n l ≡ true → first l ≡ n → ⊥
+unfolding lacks first
+never n [] h f e = omega arith
+never n (c ∷ l) h f e =
+    by (eqb (c .number) n)
+    (λ s. clash (sym (rw s at f)))
+    (λ s. by (c .due) (λ t. eqb-false (c .number) n s (rw t at e)) (λ t. never n l h (rw s at f) (rw t at e)))
+
+pub lacks-both : (n : ℕ) (l r : List Check) → lacks n l ≡ true → lacks n r ≡ true → lacks n (l ++ r) ≡ true
+unfolding lacks
+lacks-both n [] r f h = h
+lacks-both n (c ∷ l) r f h = by (eqb (c .number) n) (λ s. clash (sym (rw s at f))) (λ s. rw s (lacks-both n l r (rw s at f) h))

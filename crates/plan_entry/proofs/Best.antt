@@ -1,24 +1,27 @@
--- Demand 3 tied to the planner's own clause: whatever a call of `plan` returns with refusal 0 is best, and can be run (specs/Best).
-use Prim.Native.Nat.{ℕ}
+-- Demand 3 tied to the planner's own clause: whatever a call of `plan` returns with refusal 0 is best over the boards in use, and can be run (specs/Best).
+use Prim.Native.Nat.{ℕ, _-_, _^_, _≤_}
 use mathlib.Core.Path.{_≡_, sym, _∙_, refl, ap, subst}
 use mathlib.Core.List.{List}
 use denote.Ref.{now}
 use contract.Lifetimes.{Lfts}
 use borrow.Fn.World.{ArgsD, ResD}
 use denote.Triple.Clauses.{AtExit}
+use Rattle.cube_spec.specs.Limits.{powerLimit}
 use Rattle.cube_spec.specs.Checks.{gives}
 use Rattle.cube_spec.specs.Choices.{keeps, withMask}
 use Rattle.cube_spec.specs.Tree.{parentOf}
+use Rattle.cube_spec.specs.Ways.{Division}
 use Rattle.plan_spec.specs.declared.types.Planned.{Planned}
 use Rattle.plan_spec.specs.Plans as Plans
 use Rattle.plan_spec.specs.Plans.{PlanLists, listsOf, slotted}
-use Rattle.plan_spec.specs.Accepted.{PlanningAccepted}
-use Rattle.plan_spec.specs.Rule.{exponents, planOf}
+use Rattle.plan_spec.specs.Accepted.{LengthsAccepted, PlanningAccepted}
+use Rattle.plan_spec.specs.Rule.{exponents, planOf, powerUsed, planWithin, idleBoards}
 use Rattle.plan_spec.specs.Trees.{lastSummed, treeAxis}
 use Rattle.plan_spec.specs.Refusals.{planningRefusal, planRefusal}
 use Rattle.plan_spec.specs.Answers.{pricesOf, pricing, plannedAs, planning}
-use Rattle.plan_spec.proofs.Accepting.{planning-accepted, planned-accepted, lists-slotted}
-use Rattle.plan_spec.proofs.Answering.{refusal-of, plan-of, prices-of}
+use Rattle.plan_spec.proofs.Accepting.{planning-accept, planning-accepted, planned-accepted, lists-slotted}
+use Rattle.plan_spec.proofs.Answering.{refusal-of, plan-of, prices-of, idle-of}
+use Rattle.plan_spec.proofs.Unaltered.{used-greatest}
 use Rattle.plan_spec.proofs.PricingLaws.{answer-given}
 use Rattle.plan_spec.proofs.Demand.{demand, plan-sound}
 use Rattle.rack_spec.specs.Grids.{gridOf, maskOf, summed}
@@ -43,39 +46,6 @@ module _ (l : List ℕ) (p : ℕ) (ok : PlanningAccepted l p) where
   unfolding pricing
   priced-planned e = rw lists-planned (sym (answer-given (planRefusal (slotted (planOf l p))) (pricesOf (planOf l p)) e))
 
-pub answer-best : (l : List ℕ) (p : ℕ) → planning l p .refusal ≡ 0 → Best l p (planning l p)
-unfolding planning
-answer-best l p e =
-    let z : planningRefusal l p ≡ 0 = sym (refusal-of (planningRefusal l p) (planOf l p)) ∙ e in
-    let ok = planning-accepted l p z in
-    let least = demand l p (ok .lengths .some) (ok .enough) in
-    let c = prices-of (planningRefusal l p) (planOf l p) z in
-    let q = plan-of (planningRefusal l p) (planOf l p) z in
-    let s : listsOf (plannedAs (planningRefusal l p) (planOf l p) .plan) ≡ planOf l p = ap listsOf q ∙ lists-planned l p ok in
-    let sound = plan-sound l p (ok .lengths .some) (ok .enough) in
-    let m : plannedAs (planningRefusal l p) (planOf l p) .prices .moved ≡ Plans.moved (planOf l p) = (rw c (unfold pricesOf in refl)) in
-    let a : plannedAs (planningRefusal l p) (planOf l p) .prices .added ≡ Plans.added (planOf l p) = (rw c (unfold pricesOf in refl)) in
-    record {
-      moved-least = λ d w. rw m (least .moves-least d w);
-      added-least = λ w. rw a (least .adds-least w);
-      pointed-least = λ c w. rw (m, ← pointed-moves c w) (least .moves-least (pointed-division c) w);
-      division = least .division;
-      way = least .way;
-      exponents = rw q (least .exponents ∙ exponents-planned l p ok);
-      axes = λ mask h. rw q (least .axes mask h ∙ axis-planned l p ok mask);
-      parents = λ mask h. ap (λ (x : PlanLists). maskOf (gridOf x) (parentOf (summed (gridOf x) mask))) s ∙ tree-parent l p mask sound h ∙ ap (withMask mask) (sym (least .axes mask h));
-      points = λ b. subst (λ (x : PlanLists). HasPoint (gridOf x) b) (sym s) (sound-pointed (planOf l p) sound b);
-      moves = least .moves ∙ sym m;
-      adds = least .adds ∙ sym a;
-      priced = rw (q, c) (priced-planned l p ok (planned-accepted l p z));
-    }
-
--- Statement: of every call, by what its caller learns: the function's own contract, as the check reads it.
-pub planned-best : (κs : Lfts 1) (a : ArgsD signature κs) (r : ResD signature κs) (s : AtExit ended κs) → reads.Learnt κs a r s → r .refusal ≡ 0 → Best (now (a .0)) (a .1 .0) r
-planned-best κs a r s h e =
-    let q : r ≡ planning (now (a .0)) (a .1 .0) = h in
-    subst (Best (now (a .0)) (a .1 .0)) (sym q) (answer-best (now (a .0)) (a .1 .0) (ap (λ (x : Planned). x .refusal) (sym q) ∙ e))
-
 lengths-of : (l : List ℕ) (p : ℕ) → planOf l p .lengths ≡ l
 unfolding planOf
 lengths-of l p = refl
@@ -84,25 +54,102 @@ boards-of : (l : List ℕ) (p : ℕ) → planOf l p .p ≡ p
 unfolding planOf
 boards-of l p = refl
 
-pub answer-runs : (l : List ℕ) (p : ℕ) → planning l p .refusal ≡ 0 → Runnable l p (planning l p)
-unfolding planning
-answer-runs l p e =
-    let z : planningRefusal l p ≡ 0 = sym (refusal-of (planningRefusal l p) (planOf l p)) ∙ e in
-    let ok = planning-accepted l p z in
-    let q = plan-of (planningRefusal l p) (planOf l p) z in
-    let c = prices-of (planningRefusal l p) (planOf l p) z in
-    let s : listsOf (plannedAs (planningRefusal l p) (planOf l p) .plan) ≡ planOf l p = ap listsOf q ∙ lists-planned l p ok in
-    record {
-      passed = rw q (planned-accepted l p z);
-      sound = rw s (plan-sound l p (ok .lengths .some) (ok .enough));
-      some = rw (s, lengths-of l p) (ok .lengths .axes);
-      same = ap (λ (a : PlanLists). a .lengths) s ∙ lengths-of l p;
-      boards = ap (λ (a : PlanLists). a .p) s ∙ boards-of l p;
-      prices = c ∙ ap pricesOf (sym s);
-    }
+module _ (l : List ℕ) (p : ℕ) (e : planning l p .refusal ≡ 0) where
+  -- the power of the boards in use
+  abbrev used : ℕ
+  used = powerUsed l p
 
--- Statement: and so of every call.
-pub planned-runs : (κs : Lfts 1) (a : ArgsD signature κs) (r : ResD signature κs) (s : AtExit ended κs) → reads.Learnt κs a r s → r .refusal ≡ 0 → Runnable (now (a .0)) (a .1 .0) r
-planned-runs κs a r s h e =
-    let q : r ≡ planning (now (a .0)) (a .1 .0) = h in
-    subst (Runnable (now (a .0)) (a .1 .0)) (sym q) (answer-runs (now (a .0)) (a .1 .0) (ap (λ (x : Planned). x .refusal) (sym q) ∙ e))
+  fine : planningRefusal l p ≡ 0
+  unfolding planning
+  fine = sym (refusal-of (planningRefusal l p) (idleBoards l p) (planWithin l p)) ∙ e
+
+  accepted : PlanningAccepted l used
+  accepted = planning-accepted l p fine
+
+  prices-are : planning l p .prices ≡ pricesOf (planWithin l p)
+  unfolding planning
+  prices-are = prices-of (planningRefusal l p) (idleBoards l p) (planWithin l p) fine
+
+  plan-is : planning l p .plan ≡ slotted (planWithin l p)
+  unfolding planning
+  plan-is = plan-of (planningRefusal l p) (idleBoards l p) (planWithin l p) fine
+
+  lists-are : listsOf (planning l p .plan) ≡ planWithin l p
+  lists-are = ap listsOf plan-is ∙ lists-planned l used accepted
+
+  pub answer-idle : planning l p .idle ≡ idleBoards l p
+  unfolding planning
+  answer-idle = idle-of (planningRefusal l p) (idleBoards l p) (planWithin l p) fine
+
+  pub answer-best : Best l used (planning l p)
+  answer-best =
+      let least = demand l used (accepted .lengths .some) (accepted .enough) in
+      let sound = plan-sound l used (accepted .lengths .some) (accepted .enough) in
+      let m : planning l p .prices .moved ≡ Plans.moved (planWithin l p) = (rw prices-are (unfold pricesOf in refl)) in
+      let a : planning l p .prices .added ≡ Plans.added (planWithin l p) = (rw prices-are (unfold pricesOf in refl)) in
+      record {
+        moved-least = λ d w. rw m (least .moves-least d w);
+        added-least = λ w. rw a (least .adds-least w);
+        pointed-least = λ c w. rw (m, ← pointed-moves c w) (least .moves-least (pointed-division c) w);
+        division = least .division;
+        way = least .way;
+        exponents = rw plan-is (least .exponents ∙ exponents-planned l used accepted);
+        axes = λ mask h. rw plan-is (least .axes mask h ∙ axis-planned l used accepted mask);
+        parents = λ mask h. ap (λ (x : PlanLists). maskOf (gridOf x) (parentOf (summed (gridOf x) mask))) lists-are ∙ tree-parent l used mask sound h ∙ ap (withMask mask) (sym (least .axes mask h));
+        points = λ b. subst (λ (x : PlanLists). HasPoint (gridOf x) b) (sym lists-are) (sound-pointed (planWithin l p) sound b);
+        moves = least .moves ∙ sym m;
+        adds = least .adds ∙ sym a;
+        priced = rw (plan-is, prices-are) (priced-planned l used accepted (planned-accepted l p fine));
+      }
+
+  pub answer-runs : Runnable l used (planning l p)
+  answer-runs =
+      record {
+        passed = rw plan-is (planned-accepted l p fine);
+        sound = rw lists-are (plan-sound l used (accepted .lengths .some) (accepted .enough));
+        some = rw (lists-are, lengths-of l used) (accepted .lengths .axes);
+        same = ap (λ (a : PlanLists). a .lengths) lists-are ∙ lengths-of l used;
+        boards = ap (λ (a : PlanLists). a .p) lists-are ∙ boards-of l used;
+        prices = prices-are ∙ ap pricesOf (sym lists-are);
+      }
+
+-- of every call, by what its caller learns: the function's own contract, as the check reads it
+module _ (κs : Lfts 1) (a : ArgsD signature κs) (r : ResD signature κs) (s : AtExit ended κs) (h : reads.Learnt κs a r s) where
+  abbrev lengths : List ℕ
+  lengths = now (a .0)
+
+  -- the p asked for, and the one used
+  abbrev asked : ℕ
+  asked = a .1 .0
+
+  abbrev power : ℕ
+  power = powerUsed lengths asked
+
+  says : r ≡ planning lengths asked
+  says = h
+
+  -- Statement: a plan is given for whatever passes 3 to 6.
+  pub planned-given : LengthsAccepted lengths → asked ≤ powerLimit → r .refusal ≡ 0
+  unfolding planning
+  planned-given ok l = ap (λ (x : Planned). x .refusal) says ∙ refusal-of _ _ _ ∙ planning-accept lengths asked ok l
+
+  module _ (e : r .refusal ≡ 0) where
+    none : planning lengths asked .refusal ≡ 0
+    none = ap (λ (x : Planned). x .refusal) (sym says) ∙ e
+
+    -- Statement: "Least traffic is then meant among divisions of the boards in use."
+    pub planned-best : Best lengths power r
+    planned-best = subst (Best lengths power) (sym says) (answer-best lengths asked none)
+
+    -- Statement: the plan has the p used, and no entry that takes a plan refuses it.
+    pub planned-runs : Runnable lengths power r
+    planned-runs = subst (Runnable lengths power) (sym says) (answer-runs lengths asked none)
+
+    -- Statement: "how many of the boards asked for stand idle": those that are not the plan's.
+    pub planned-idle : r .idle ≡ 2 ^ asked - 2 ^ listsOf (r .plan) .p
+    unfolding idleBoards
+    planned-idle = ap (λ (x : Planned). x .idle) says ∙ answer-idle lengths asked none ∙ ap (λ u. 2 ^ asked - 2 ^ u) (sym (planned-runs .boards))
+
+    -- Statement: and no division of these axes puts more of the boards asked for to use.
+    pub planned-most : (q : ℕ) → q ≤ asked → Division lengths q → q ≤ listsOf (r .plan) .p
+    planned-most q l d = rw (planned-runs .boards) (used-greatest lengths asked q l d)

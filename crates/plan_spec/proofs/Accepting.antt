@@ -4,6 +4,7 @@ use mathlib.Core.Path.{_≡_, sym, _∙_, refl, ap}
 use mathlib.Core.Bool.{Bool, true, false, _||_, not}
 use mathlib.Core.List.{List, [], _∷_, _++_, map}
 use native.Mathlib.Omega.{arith}
+use native.Mathlib.Nat.{le-trans}
 use native.Mathlib.Decide.{decLe}
 use borrow.Author.Tests.{eqb-true, eqb-false, eq-eqb, ltb-false, le-ltb, leb-true, le-leb, not-false}
 use lib.Dec.{eqb, ltb, leb}
@@ -14,10 +15,11 @@ use Rattle.cube_spec.specs.Choices.{points, lengthOf}
 use Rattle.cube_spec.specs.Ways.{sumList, room}
 use Rattle.cube_spec.specs.Checks.{Check, check, first}
 use Rattle.cube_spec.proofs.Naturals.{clash}
+use Rattle.cube_spec.proofs.Dues.{Numbered}
 use Rattle.plan_spec.specs.declared.types.Plan.{Plan}
 use Rattle.plan_spec.specs.Plans.{PlanLists, Sound, count, listsOf, slotted}
-use Rattle.plan_spec.specs.Rule.{planOf}
-use Rattle.plan_spec.specs.Refusals.{all, some, badAxes, badLength, tooManyPoints, tooManyBoards, noRoom, namesEach, slotsUsed, badOrder, badExponents, lengthChecks, planningChecks, planningRefusal, planRefusal}
+use Rattle.plan_spec.specs.Rule.{planOf, powerUsed, planWithin}
+use Rattle.plan_spec.specs.Refusals.{all, some, badAxes, badLength, tooManyPoints, tooManyBoards, namesEach, slotsUsed, badOrder, badExponents, lengthChecks, planningChecks, planningRefusal, planRefusal}
 use Rattle.plan_spec.specs.Accepted.{LengthsAccepted, PlanningAccepted, Spare, Accepted}
 use Rattle.plan_spec.proofs.Judging.{some-false, some-none, all-true, all-each, first-length, good-length, length-good, good-axes, few-boards, later, plan-list, bad-order, bad-exponents}
 use Rattle.plan_spec.proofs.Demand.{plan-sound}
@@ -52,13 +54,25 @@ boards-few : (p : ℕ) → tooManyBoards p ≡ false → p ≤ powerLimit
 unfolding tooManyBoards
 boards-few p e = ltb-false 10 p e
 
-room-enough : (ds : List ℕ) (p : ℕ) → noRoom ds p ≡ false → p ≤ room ds
-unfolding noRoom
-room-enough ds p e = ltb-false (room ds) p e
+-- ---- the power used
 
-enough-room : (ds : List ℕ) (p : ℕ) → p ≤ room ds → noRoom ds p ≡ false
-unfolding noRoom
-enough-room ds p h = le-ltb (room ds) p h
+module _ (ds : List ℕ) (p : ℕ) where
+  pub used-le : powerUsed ds p ≤ p
+  unfolding powerUsed
+  used-le = omega arith
+
+  pub used-room : powerUsed ds p ≤ room ds
+  unfolding powerUsed
+  used-room = omega arith
+
+  -- all that is asked for, or all the room
+  pub used-all : p ≤ room ds → p ≡ powerUsed ds p
+  unfolding powerUsed
+  used-all h = omega arith
+
+  pub used-most : room ds < p → room ds ≡ powerUsed ds p
+  unfolding powerUsed
+  used-most h = omega arith
 
 named-once : (n : ℕ) (o : List ℕ) → namesEach n o ≡ true → (d : ℕ) → d < n → count d o ≡ 1
 unfolding namesEach
@@ -88,28 +102,33 @@ module _ (ds : List ℕ) where
 -- ---- planning
 
 module _ (ds : List ℕ) (p : ℕ) where
-  planning-list : planningRefusal ds p ≡ first (check 3 (badAxes (length ds)) ∷ check 4 (some badLength ds) ∷ check 5 (tooManyPoints ds) ∷ check 6 (tooManyBoards p) ∷ check 7 (noRoom ds p) ∷ [])
+  planning-list : planningRefusal ds p ≡ first (check 3 (badAxes (length ds)) ∷ check 4 (some badLength ds) ∷ check 5 (tooManyPoints ds) ∷ check 6 (tooManyBoards p) ∷ [])
   unfolding planningRefusal planningChecks lengthChecks
   planning-list = refl
 
-  pub planning-accepted : planningRefusal ds p ≡ 0 → PlanningAccepted ds p
-  planning-accepted e =
-      let a = first-none 3 (badAxes (length ds)) (check 4 (some badLength ds) ∷ check 5 (tooManyPoints ds) ∷ check 6 (tooManyBoards p) ∷ check 7 (noRoom ds p) ∷ []) (omega arith) (sym planning-list ∙ e) in
-      let b = first-none 4 (some badLength ds) (check 5 (tooManyPoints ds) ∷ check 6 (tooManyBoards p) ∷ check 7 (noRoom ds p) ∷ []) (omega arith) (a .1) in
-      let c = first-none 5 (tooManyPoints ds) (check 6 (tooManyBoards p) ∷ check 7 (noRoom ds p) ∷ []) (omega arith) (b .1) in
-      let d = first-none 6 (tooManyBoards p) (check 7 (noRoom ds p) ∷ []) (omega arith) (c .1) in
-      let f = first-none 7 (noRoom ds p) [] (omega arith) (d .1) in
-      record {
-        lengths = lengths-accepted ds (a .0) (b .0) (c .0);
-        boards = boards-few p (d .0);
-        enough = room-enough ds p (f .0);
-      }
+  pub planning-numbered : Numbered (planningChecks ds p)
+  unfolding planningChecks lengthChecks
+  planning-numbered = (omega arith, (omega arith, (omega arith, (omega arith, tt))))
 
-  pub planning-accept : PlanningAccepted ds p → planningRefusal ds p ≡ 0
+  pub planning-passed : planningRefusal ds p ≡ 0 → LengthsAccepted ds × (p ≤ powerLimit)
+  planning-passed e =
+      let a = first-none 3 (badAxes (length ds)) (check 4 (some badLength ds) ∷ check 5 (tooManyPoints ds) ∷ check 6 (tooManyBoards p) ∷ []) (omega arith) (sym planning-list ∙ e) in
+      let b = first-none 4 (some badLength ds) (check 5 (tooManyPoints ds) ∷ check 6 (tooManyBoards p) ∷ []) (omega arith) (a .1) in
+      let c = first-none 5 (tooManyPoints ds) (check 6 (tooManyBoards p) ∷ []) (omega arith) (b .1) in
+      let d = first-none 6 (tooManyBoards p) [] (omega arith) (c .1) in
+      (lengths-accepted ds (a .0) (b .0) (c .0), boards-few p (d .0))
+
+  -- what passes 3 to 6 has a plan for the boards in use
+  pub planning-accepted : planningRefusal ds p ≡ 0 → PlanningAccepted ds (powerUsed ds p)
+  planning-accepted e =
+      let a = planning-passed e in
+      record { lengths = a .0; boards = le-trans (used-le ds p) (a .1); enough = used-room ds p }
+
+  pub planning-accept : LengthsAccepted ds → p ≤ powerLimit → planningRefusal ds p ≡ 0
   unfolding first
-  planning-accept ok =
-      let l = lengths-accept ds (ok .lengths) in
-      planning-list ∙ (rw (l .0, l .1, l .2, few-boards p (ok .boards), enough-room ds p (ok .enough)))
+  planning-accept ok h =
+      let l = lengths-accept ds ok in
+      planning-list ∙ (rw (l .0, l .1, l .2, few-boards p h))
 
 -- ---- slots past the last axis
 
@@ -253,12 +272,14 @@ slotted-accepted a l b ok =
     }
 
 -- planning and pricing agree on the planner's own plan
-pub planned-accepted : (ds : List ℕ) (p : ℕ) → planningRefusal ds p ≡ 0 → planRefusal (slotted (planOf ds p)) ≡ 0
+rule-accepted : (ds : List ℕ) (p : ℕ) → PlanningAccepted ds p → planRefusal (slotted (planOf ds p)) ≡ 0
 unfolding planOf slotted
-planned-accepted ds p e =
-    let ok = planning-accepted ds p e in
+rule-accepted ds p ok =
     let sound = plan-sound ds p (ok .lengths .some) (ok .enough) in
     let o = sound .places in
     let k = sound .each in
     let few = ok .lengths .few in
     accept (slotted (planOf ds p)) (padded-length ds few) (padded-length (planOf ds p .order) (omega arith)) (padded-length (planOf ds p .exponents) (omega arith)) (slotted-accepted (planOf ds p) (ok .lengths) (ok .boards) sound)
+
+pub planned-accepted : (ds : List ℕ) (p : ℕ) → planningRefusal ds p ≡ 0 → planRefusal (slotted (planWithin ds p)) ≡ 0
+planned-accepted ds p e = rule-accepted ds (powerUsed ds p) (planning-accepted ds p e)

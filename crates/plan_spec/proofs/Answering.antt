@@ -1,12 +1,12 @@
 -- What planning answers, field by field.
-use Prim.Native.Nat.{ℕ, zero, suc, _+_, _≤_, _<_}
+use Prim.Native.Nat.{ℕ, zero, suc, _+_, _-_, _^_, _≤_, _<_}
 use mathlib.Core.Path.{_≡_, sym, _∙_, refl, ap, ap₂}
 use mathlib.Core.Bool.{Bool, true}
 use mathlib.Core.List.{List, [], _∷_}
 use native.Mathlib.Omega.{arith}
 use borrow.Author.Tests.{lt-ltb, ne-eqb}
 use lib.ListN.{length, getD, take, replicate}
-use Rattle.cube_spec.specs.Limits.{padded}
+use Rattle.cube_spec.specs.Limits.{axisLimit, powerLimit, padded}
 use Rattle.cube_spec.specs.Boxes.{pick, tableFrom, table}
 use Rattle.cube_spec.specs.Checks.{first}
 use Rattle.cube_spec.proofs.Slots.{padded-at, padded-take}
@@ -15,42 +15,48 @@ use Rattle.plan_spec.specs.declared.types.Prices.{Prices}
 use Rattle.plan_spec.specs.declared.types.Planned.{Planned}
 use Rattle.plan_spec.specs.declared.types.Arrangement.{Arrangement}
 use Rattle.plan_spec.specs.Plans.{PlanLists, find, listsOf, slotted}
-use Rattle.plan_spec.specs.Rule.{order, orderedExponents, exponents, planOf}
+use Rattle.plan_spec.specs.Rule.{order, orderedExponents, exponents, planOf, powerUsed, planWithin, idleBoards}
 use Rattle.plan_spec.specs.Refusals.{badAxes, lengthChecks, planningChecks, planningRefusal, planRefusal}
 use Rattle.plan_spec.specs.Accepted.{PlanningAccepted}
 use Rattle.plan_spec.specs.Answers.{pricesOf, plannedAs, planning, arrangement}
 use Rattle.plan_spec.proofs.Places.{order-length}
 use Rattle.plan_spec.proofs.Demand.{plan-sound}
-use Rattle.plan_spec.proofs.Accepting.{planning-accepted, planned-accepted, lists-slotted}
+use Rattle.plan_spec.proofs.Accepting.{used-le, planning-passed, planning-accepted, planned-accepted, lists-slotted}
 use Rattle.plan_spec.proofs.Arranging.{place-below, table-cong}
 
-pub blank : (n : ℕ) → 0 < n → (a : PlanLists) → _≡_ {A = Planned} (record { refusal = n; plan = record { axes = 0; p = 0; lengths = replicate 8 0; order = replicate 8 0; exponents = replicate 8 0 }; prices = record { moved = 0; added = 0; share = 0 } }) (plannedAs n a)
-blank zero h a = absurd (omega arith)
-blank (suc n) h a = unfold plannedAs slotted padded in refl
+pub blank : (n : ℕ) → 0 < n → (k : ℕ) (a : PlanLists) → _≡_ {A = Planned} (record { refusal = n; plan = record { axes = 0; p = 0; lengths = replicate axisLimit 0; order = replicate axisLimit 0; exponents = replicate axisLimit 0 }; prices = record { moved = 0; added = 0; share = 0 }; idle = 0 }) (plannedAs n k a)
+blank zero h k a = absurd (omega arith)
+blank (suc n) h k a = unfold plannedAs slotted padded in refl
 
-pub refusal-of : (n : ℕ) (a : PlanLists) → plannedAs n a .refusal ≡ n
+pub refusal-of : (n k : ℕ) (a : PlanLists) → plannedAs n k a .refusal ≡ n
 unfolding plannedAs
-refusal-of zero a = refl
-refusal-of (suc n) a = refl
+refusal-of zero k a = refl
+refusal-of (suc n) k a = refl
 
-pub plan-of : (n : ℕ) (a : PlanLists) → n ≡ 0 → plannedAs n a .plan ≡ slotted a
+pub plan-of : (n k : ℕ) (a : PlanLists) → n ≡ 0 → plannedAs n k a .plan ≡ slotted a
 unfolding plannedAs
-plan-of zero a e = refl
-plan-of (suc n) a e = absurd (omega arith)
+plan-of zero k a e = refl
+plan-of (suc n) k a e = absurd (omega arith)
 
-pub prices-of : (n : ℕ) (a : PlanLists) → n ≡ 0 → plannedAs n a .prices ≡ pricesOf a
+pub prices-of : (n k : ℕ) (a : PlanLists) → n ≡ 0 → plannedAs n k a .prices ≡ pricesOf a
 unfolding plannedAs
-prices-of zero a e = refl
-prices-of (suc n) a e = absurd (omega arith)
+prices-of zero k a e = refl
+prices-of (suc n) k a e = absurd (omega arith)
 
-planned-zero : (a : PlanLists) (q : Plan) (c : Prices) → q ≡ slotted a → c ≡ pricesOf a → _≡_ {A = Planned} (record { refusal = 0; plan = q; prices = c }) (plannedAs 0 a)
+pub idle-of : (n k : ℕ) (a : PlanLists) → n ≡ 0 → plannedAs n k a .idle ≡ k
 unfolding plannedAs
-planned-zero a q c e f = (λ i. record { refusal = 0; plan = e i; prices = f i })
+idle-of zero k a e = refl
+idle-of (suc n) k a e = absurd (omega arith)
+
+planned-zero : (k j : ℕ) (a : PlanLists) (q : Plan) (c : Prices) → k ≡ j → q ≡ slotted a → c ≡ pricesOf a
+    → _≡_ {A = Planned} (record { refusal = 0; plan = q; prices = c; idle = k }) (plannedAs 0 j a)
+unfolding plannedAs
+planned-zero k j a q c d e f = (λ i. record { refusal = 0; plan = e i; prices = f i; idle = d i })
 
 module _ (l : List ℕ) (p : ℕ) where
-  pub refused-as : (r : Planned) (n : ℕ) → ((a : PlanLists) → r ≡ plannedAs n a) → n ≡ planningRefusal l p → r ≡ planning l p
+  pub refused-as : (r : Planned) (n : ℕ) → ((k : ℕ) (a : PlanLists) → r ≡ plannedAs n k a) → n ≡ planningRefusal l p → r ≡ planning l p
   unfolding planning
-  refused-as r n h e = h (planOf l p) ∙ ap (λ k. plannedAs k (planOf l p)) e
+  refused-as r n h e = h (idleBoards l p) (planWithin l p) ∙ ap (λ k. plannedAs k (idleBoards l p) (planWithin l p)) e
 
   pub too-many : 8 < length l → 3 ≡ planningRefusal l p
   unfolding planningRefusal planningChecks lengthChecks first badAxes
@@ -76,9 +82,9 @@ module _ (l : List ℕ) (p : ℕ) where
   unfolding slotted planOf
   plan-fields q a b c d e = (λ i. record { axes = a i; p = b i; lengths = c i; order = d i; exponents = e i })
 
-  pub planned-as : 0 ≡ planningRefusal l p → (q : Plan) (c : Prices) → q ≡ slotted (planOf l p) → c ≡ pricesOf (listsOf q) → listsOf (slotted (planOf l p)) ≡ planOf l p → _≡_ {A = Planned} (record { refusal = 0; plan = q; prices = c }) (planning l p)
+  pub planned-as : 0 ≡ planningRefusal l p → (k : ℕ) (q : Plan) (c : Prices) → k ≡ idleBoards l p → q ≡ slotted (planWithin l p) → c ≡ pricesOf (listsOf q) → listsOf (slotted (planWithin l p)) ≡ planWithin l p → _≡_ {A = Planned} (record { refusal = 0; plan = q; prices = c; idle = k }) (planning l p)
   unfolding planning
-  planned-as z q c e f s = planned-zero (planOf l p) q c e (f ∙ ap (λ x. pricesOf (listsOf x)) e ∙ ap pricesOf s) ∙ ap (λ k. plannedAs k (planOf l p)) z
+  planned-as z k q c d e f s = planned-zero k (idleBoards l p) (planWithin l p) q c d e (f ∙ ap (λ x. pricesOf (listsOf x)) e ∙ ap pricesOf s) ∙ ap (λ n. plannedAs n (idleBoards l p) (planWithin l p)) z
 
   -- the plan comes out of its slots as it went in
   pub slots-back : PlanningAccepted l p → listsOf (slotted (planOf l p)) ≡ planOf l p
@@ -93,37 +99,44 @@ module _ (l ds : List ℕ) (p bad : ℕ) (slots : ds ≡ padded l) (fits : lengt
   pub judged-so : bad ≡ planningRefusal l p
   judged-so = judged ∙ ap (λ x. planningRefusal x p) back
 
-  module _ (fine : bad ≡ 0) where
-    pub fine-slots : PlanningAccepted (take (length l) ds) p
-    fine-slots = planning-accepted (take (length l) ds) p (sym judged ∙ fine)
+  module _ (fine : bad ≡ 0) (used : ℕ) (fitted : used ≡ powerUsed (take (length l) ds) p) where
+    used-so : used ≡ powerUsed l p
+    used-so = fitted ∙ ap (λ x. powerUsed x p) back
 
-    fine-lengths : PlanningAccepted l p
-    fine-lengths = planning-accepted l p (sym judged-so ∙ fine)
+    pub fine-slots : PlanningAccepted (take (length l) ds) used
+    fine-slots = rw fitted (planning-accepted (take (length l) ds) p (sym judged ∙ fine))
 
-    module _ (v : Arrangement) (arranged : v ≡ arrangement (take (length l) ds) p) where
+    fine-lengths : PlanningAccepted l used
+    fine-lengths = rw used-so (planning-accepted l p (sym judged-so ∙ fine))
+
+    -- no more boards are used than asked for, and 2^p of those are counted
+    pub used-asked : (used ≤ p) × (p ≤ powerLimit)
+    used-asked = (rw used-so (used-le l p), planning-passed l p (sym judged-so ∙ fine) .1)
+
+    module _ (v : Arrangement) (arranged : v ≡ arrangement (take (length l) ds) used) where
       ordered : v .order ≡ padded (order l)
       unfolding arrangement
       ordered = ap (λ (w : Arrangement). w .order) arranged ∙ ap (λ x. padded (order x)) back
 
-      cut : v .exponents ≡ padded (orderedExponents l p)
+      cut : v .exponents ≡ padded (orderedExponents l used)
       unfolding arrangement
-      cut = ap (λ (w : Arrangement). w .exponents) arranged ∙ ap (λ x. padded (orderedExponents x p)) back
+      cut = ap (λ (w : Arrangement). w .exponents) arranged ∙ ap (λ x. padded (orderedExponents x used)) back
 
       pub placed : (a : ℕ) → a < length l → find a (take (length l) (v .order)) < length l
-      placed a h = rw ordered (found l p fine-lengths fits a h)
+      placed a h = rw ordered (found l used fine-lengths fits a h)
 
       module _ (ks : List ℕ) (spread : ks ≡ padded (table (length l) (λ a. getD (v .exponents) (find a (take (length l) (v .order))) 0))) where
         abbrev made : Plan
-        made = record { axes = length l; p = p; lengths = ds; order = v .order; exponents = ks }
+        made = record { axes = length l; p = used; lengths = ds; order = v .order; exponents = ks }
 
-        by-axis : ks ≡ padded (exponents l p)
-        by-axis = spread ∙ ap₂ (λ (k o : List ℕ). padded (table (length l) (λ a. getD k (find a (take (length l) o)) 0))) cut ordered ∙ exponents-slots l p fine-lengths fits
+        by-axis : ks ≡ padded (exponents l used)
+        by-axis = spread ∙ ap₂ (λ (k o : List ℕ). padded (table (length l) (λ a. getD k (find a (take (length l) o)) 0))) cut ordered ∙ exponents-slots l used fine-lengths fits
 
-        same : made ≡ slotted (planOf l p)
-        same = plan-fields l p made refl refl slots ordered by-axis
+        same : made ≡ slotted (planWithin l p)
+        same = plan-fields l used made refl refl slots ordered by-axis ∙ ap (λ k. slotted (planOf l k)) used-so
 
         pub made-accepted : planRefusal made ≡ 0
         made-accepted = ap planRefusal same ∙ planned-accepted l p (sym judged-so ∙ fine)
 
-        pub made-planned : (c : Prices) → c ≡ pricesOf (listsOf made) → _≡_ {A = Planned} (record { refusal = 0; plan = made; prices = c }) (planning l p)
-        made-planned c e = planned-as l p (sym fine ∙ judged-so) made c same e (slots-back l p fine-lengths)
+        pub made-planned : (c : Prices) (k : ℕ) → c ≡ pricesOf (listsOf made) → k ≡ 2 ^ p - 2 ^ used → _≡_ {A = Planned} (record { refusal = 0; plan = made; prices = c; idle = k }) (planning l p)
+        made-planned c k e i = planned-as l p (sym fine ∙ judged-so) k made c (i ∙ (unfold idleBoards in ap (λ u. 2 ^ p - 2 ^ u) used-so)) same e (slots-back l (powerUsed l p) (planning-accepted l p (sym judged-so ∙ fine)))

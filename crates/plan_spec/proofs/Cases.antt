@@ -9,7 +9,7 @@ use Rattle.plan_spec.specs.declared.types.Plan.{Plan}
 use Rattle.plan_spec.specs.declared.types.Prices.{Prices}
 use Rattle.plan_spec.specs.declared.types.Planned.{Planned}
 use Rattle.plan_spec.specs.Answers.{pricing, planning}
-use Rattle.plan_spec.specs.Rule.{order, orderedExponents}
+use Rattle.plan_spec.specs.Rule.{order, orderedExponents, powerUsed, idleBoards}
 use Rattle.plan_spec.specs.Refusals.{planningRefusal, planRefusal}
 
 abbrev prices : ℕ → ℕ → ℕ → Prices
@@ -36,7 +36,7 @@ divisions = (refl, refl, refl, refl, refl)
 
 -- ---- the refusals, each in its order
 
--- none of the lengths; nine axes; a length of 0, of 65,536; too many points; p 11, though there is no room either; p over the room
+-- none of the lengths; nine axes; a length of 0, of 65,536; too many points; p 11, whatever the room; p 2 and p 10 over the room, which are taken
 planning-refused : (planningRefusal [] 11 ≡ 3)
     × (planningRefusal (replicate 9 0) 0 ≡ 3)
     × (planningRefusal (replicate 8 1) 0 ≡ 0)
@@ -45,9 +45,10 @@ planning-refused : (planningRefusal [] 11 ≡ 3)
     × (planningRefusal (65535 ∷ []) 10 ≡ 0)
     × (planningRefusal (2048 ∷ 8193 ∷ []) 11 ≡ 5)
     × (planningRefusal (2 ∷ []) 11 ≡ 6)
-    × (planningRefusal (2 ∷ []) 2 ≡ 7)
+    × (planningRefusal (2 ∷ []) 2 ≡ 0)
+    × (planningRefusal (1 ∷ []) 10 ≡ 0)
 unfolding computing
-planning-refused = (refl, refl, refl, refl, refl, refl, refl, refl, refl)
+planning-refused = (refl, refl, refl, refl, refl, refl, refl, refl, refl, refl)
 
 -- two axes of 3 and 2: the slots past them are 0, unless a case says otherwise
 abbrev two : ℕ → ℕ → ℕ → ℕ → ℕ → Plan
@@ -70,18 +71,41 @@ plan-refused : (planRefusal (lent 0 (replicate 8 0) (replicate 8 0) (replicate 8
 unfolding computing
 plan-refused = (refl, refl, refl, refl, refl, refl, refl, refl, refl, refl, refl, refl, refl, refl)
 
--- ---- what planning answers, with its slots, and a refusal with nothing but zeros; what pricing answers for plans that are not the planner's
+-- ---- boards in use and idle: room for p, just for p, for all but one, for one of seven; no room at all
+
+used : (powerUsed (7 ∷ 4 ∷ 3 ∷ []) 3 ≡ 3)
+    × (powerUsed (7 ∷ 4 ∷ 3 ∷ []) 5 ≡ 5)
+    × (powerUsed (7 ∷ 4 ∷ 3 ∷ []) 6 ≡ 5)
+    × (powerUsed (3 ∷ []) 7 ≡ 1)
+    × (powerUsed (1 ∷ 1 ∷ []) 10 ≡ 0)
+unfolding computing
+used = (refl, refl, refl, refl, refl)
+
+idle : (idleBoards (7 ∷ 4 ∷ 3 ∷ []) 3 ≡ 0)
+    × (idleBoards (7 ∷ 4 ∷ 3 ∷ []) 5 ≡ 0)
+    × (idleBoards (7 ∷ 4 ∷ 3 ∷ []) 6 ≡ 32)
+    × (idleBoards (3 ∷ []) 7 ≡ 126)
+    × (idleBoards (1 ∷ 1 ∷ []) 10 ≡ 1023)
+unfolding computing
+idle = (refl, refl, refl, refl, refl)
+
+-- ---- what planning answers, with its slots: all boards in use, a trainer's 64 boards of which 2 are, and a refusal with nothing but zeros;
+-- what pricing answers for plans that are not the planner's
 
 abbrev three : Plan
 three = lent 3 (2 ∷ 7 ∷ 4 ∷ replicate 5 0) (1 ∷ 2 ∷ 0 ∷ replicate 5 0) (0 ∷ 2 ∷ 1 ∷ replicate 5 0) 3
 
+abbrev one : Plan
+one = lent 1 (2 ∷ replicate 7 0) (replicate 8 0) (1 ∷ replicate 7 0) 1
+
 abbrev none : Plan
 none = lent 0 (replicate 8 0) (replicate 8 0) (replicate 8 0) 0
 
-planned-cases : (planning (2 ∷ 7 ∷ 4 ∷ []) 3 ≡ record { refusal = 0; plan = three; prices = prices 40 200 12 })
-    × (planning (2 ∷ []) 2 ≡ record { refusal = 7; plan = none; prices = prices 0 0 0 })
+planned-cases : (planning (2 ∷ 7 ∷ 4 ∷ []) 3 ≡ record { refusal = 0; plan = three; prices = prices 40 200 12; idle = 0 })
+    × (planning (2 ∷ []) 6 ≡ record { refusal = 0; plan = one; prices = prices 1 2 1; idle = 62 })
+    × (planning (2 ∷ []) 11 ≡ record { refusal = 6; plan = none; prices = prices 0 0 0; idle = 0 })
 unfolding computing
-planned-cases = (refl, refl)
+planned-cases = (refl, refl, refl)
 
 priced-cases : (pricing (lent 2 (6 ∷ 2 ∷ replicate 6 0) (0 ∷ 1 ∷ replicate 6 0) (0 ∷ 1 ∷ replicate 6 0) 1) ≡ gives (prices 7 26 7))
     × (pricing (lent 2 (6 ∷ 2 ∷ replicate 6 0) (1 ∷ 0 ∷ replicate 6 0) (0 ∷ 1 ∷ replicate 6 0) 1) ≡ gives (prices 6 30 7))

@@ -8,15 +8,14 @@ use borrow.Author.Tests.{eq-eqb, ne-eqb, le-ltb, lt-ltb}
 use lib.Dec.{eqb, ltb}
 use lib.ListN.{length}
 use Rattle.cube_spec.specs.Boxes.{pick}
-use Rattle.cube_spec.specs.Ways.{room}
 use Rattle.cube_spec.specs.Checks.{check, first}
-use Rattle.plan_spec.specs.Refusals.{some, badAxes, badLength, tooManyPoints, tooManyBoards, noRoom, lengthChecks, planningChecks, planningRefusal}
+use Rattle.plan_spec.specs.Refusals.{some, badAxes, badLength, tooManyPoints, tooManyBoards, lengthChecks, planningChecks, planningRefusal}
 
 module _ (ds : List ℕ) (p : ℕ) where
   abbrev ofLengths : ℕ
   ofLengths = first (check 4 (some badLength ds) ∷ check 5 (tooManyPoints ds) ∷ [])
 
-  split : planningRefusal ds p ≡ pick (badAxes (length ds)) 3 (pick (some badLength ds) 4 (pick (tooManyPoints ds) 5 (pick (tooManyBoards p) 6 (pick (noRoom ds p) 7 0))))
+  split : planningRefusal ds p ≡ pick (badAxes (length ds)) 3 (pick (some badLength ds) 4 (pick (tooManyPoints ds) 5 (pick (tooManyBoards p) 6 0)))
   unfolding planningRefusal planningChecks lengthChecks first
   split = refl
 
@@ -47,7 +46,7 @@ module _ (ds : List ℕ) (p : ℕ) where
     refuses-lengths r e h = sym (split ∙ (rw (axes-fine ne l) (at-lengths (some badLength ds) (tooManyPoints ds) _ (λ z. h (e ∙ of-lengths ∙ z)) ∙ sym of-lengths ∙ sym e)))
 
     module _ (fine : 0 ≡ ofLengths) where
-      past : planningRefusal ds p ≡ pick (tooManyBoards p) 6 (pick (noRoom ds p) 7 0)
+      past : planningRefusal ds p ≡ pick (tooManyBoards p) 6 0
       past = split ∙ (rw (axes-fine ne l) (past-lengths (some badLength ds) (tooManyPoints ds) _ (sym of-lengths ∙ sym fine)))
 
       pub refuses-boards : 10 < p → 6 ≡ planningRefusal ds p
@@ -57,8 +56,5 @@ module _ (ds : List ℕ) (p : ℕ) where
       unfolding tooManyBoards
       fits h = le-ltb 10 p h
 
-      pub refuses-room : p ≤ 10 → room ds < p → 7 ≡ planningRefusal ds p
-      refuses-room h r = sym (past ∙ (let q : noRoom ds p ≡ true = (unfold noRoom in lt-ltb (room ds) p r) in rw (fits h, q)))
-
-      pub refuses-nothing : p ≤ 10 → p ≤ room ds → 0 ≡ planningRefusal ds p
-      refuses-nothing h r = sym (past ∙ (let q : noRoom ds p ≡ false = (unfold noRoom in le-ltb (room ds) p r) in rw (fits h, q)))
+      pub refuses-nothing : p ≤ 10 → 0 ≡ planningRefusal ds p
+      refuses-nothing h = sym (past ∙ (rw (fits h)))

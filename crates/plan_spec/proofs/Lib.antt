@@ -26,3 +26,4 @@ pub mod Arranging
 pub mod Deciding
 pub mod PricingLaws
 pub mod Answering
+pub mod Unaltered

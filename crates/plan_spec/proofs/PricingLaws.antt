@@ -34,12 +34,15 @@ use Rattle.plan_spec.proofs.Orders.{order-below, product-order}
 
 -- ---- powers of two
 
--- as a shift gives them
-pub shifted : (k : ℕ) → k ≤ powerLimit → (1 * 2 ^ k) % 18446744073709551616 ≡ 2 ^ k
-shifted k h =
+-- as a shift of w values gives them
+pub shift-in : (w k : ℕ) → 1024 < w → k ≤ powerLimit → (1 * 2 ^ k) % w ≡ 2 ^ k
+shift-in w k g h =
     let l : 2 ^ k ≤ 2 ^ 10 = pow-mono h in
-    let m : 2 ^ k < 18446744073709551616 = omega arith in
+    let m : 2 ^ k < w = omega arith in
     rw (one-mul, mod-eq-of-lt m)
+
+pub shifted : (k : ℕ) → k ≤ powerLimit → (1 * 2 ^ k) % 18446744073709551616 ≡ 2 ^ k
+shifted k h = shift-in 18446744073709551616 k (omega arith) h
 
 pub power-small : (k : ℕ) → k ≤ powerLimit → (1 ≤ 2 ^ k) × (2 ^ k ≤ 1024)
 power-small k h = (pow-pos k, pow-mono {j = 10} h)

@@ -17,7 +17,7 @@ pub record LengthsAccepted (ds : List ℕ) : Type 0 where
   pub short : (d : ℕ) → d < length ds → lengthOf ds d ≤ lengthLimit
   pub small : points ds ≤ pointLimit
 
--- planning accepts ds and p: 3 to 7
+-- the planner's rule has a plan for ds and p: the checks 3 to 6 are passed, and there is a division
 pub record PlanningAccepted (ds : List ℕ) (p : ℕ) : Type 0 where
   pub lengths : LengthsAccepted ds
   pub boards : p ≤ powerLimit

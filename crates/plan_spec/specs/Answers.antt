@@ -10,7 +10,7 @@ use Rattle.plan_spec.specs.declared.types.Priced.the-variants as Priced�
 use Rattle.plan_spec.specs.declared.types.Planned.{Planned}
 use Rattle.plan_spec.specs.Plans.{PlanLists, moved, added, shareSize, listsOf, slotted}
 use Rattle.plan_spec.specs.declared.types.Arrangement.{Arrangement}
-use Rattle.plan_spec.specs.Rule.{order, orderedExponents, planOf}
+use Rattle.plan_spec.specs.Rule.{order, orderedExponents, planWithin, idleBoards}
 use Rattle.plan_spec.specs.Refusals.{planningRefusal, planRefusal}
 
 -- a plan's prices
@@ -27,13 +27,13 @@ unfoldable pub pricing : Plan → Reply Prices
 pricing q = answered (planRefusal q) (pricesOf (listsOf q))
 
 -- what planning answers: "Each gives its number alone", so nothing but zeros stands beside a refusal
-unfoldable pub plannedAs : ℕ → PlanLists → Planned
-plannedAs zero a = record { refusal = 0; plan = slotted a; prices = pricesOf a }
-plannedAs (suc n) a =
-    record { refusal = suc n; plan = slotted (record { lengths = []; order = []; exponents = []; p = 0 }); prices = record { moved = 0; added = 0; share = 0 } }
+unfoldable pub plannedAs : ℕ → ℕ → PlanLists → Planned
+plannedAs zero idle a = record { refusal = 0; plan = slotted a; prices = pricesOf a; idle = idle }
+plannedAs (suc n) idle a =
+    record { refusal = suc n; plan = slotted (record { lengths = []; order = []; exponents = []; p = 0 }); prices = record { moved = 0; added = 0; share = 0 }; idle = 0 }
 
 unfoldable pub planning : List ℕ → ℕ → Planned
-planning ds p = plannedAs (planningRefusal ds p) (planOf ds p)
+planning ds p = plannedAs (planningRefusal ds p) (idleBoards ds p) (planWithin ds p)
 
 -- the planner's order and exponents, both in plan order, in slots
 unfoldable pub arrangement : List ℕ → ℕ → Arrangement

@@ -8,3 +8,4 @@ pub mod Accepted
 pub mod Choosing
 pub mod Pricing
 pub mod Demand
+pub mod Before

@@ -6,7 +6,7 @@ use lib.Dec.{eqb, ltb, leb}
 use lib.ListN.{length, getD, drop}
 use Rattle.cube_spec.specs.Limits.{axisLimit, lengthLimit, pointLimit, powerLimit}
 use Rattle.cube_spec.specs.Choices.{points, lengthOf}
-use Rattle.cube_spec.specs.Ways.{sumList, room}
+use Rattle.cube_spec.specs.Ways.{sumList}
 use Rattle.cube_spec.specs.Checks.{Check, check, first}
 use Rattle.plan_spec.specs.declared.types.Plan.{Plan}
 use Rattle.plan_spec.specs.Plans.{PlanLists, count, listsOf}
@@ -38,9 +38,7 @@ tooManyPoints ds = ltb pointLimit (points ds)
 unfoldable pub tooManyBoards : ℕ → Bool
 tooManyBoards p = ltb powerLimit p
 
--- 7. "When planning, p exceeds the sum of floor(log2 length)."
-unfoldable pub noRoom : List ℕ → ℕ → Bool
-noRoom ds p = ltb (room ds) p
+-- 7. "When planning, p exceeds the sum of floor(log2 length)." Retired by request 7/12: no entry gives it.
 
 -- 8. "The order does not name each axis once, or a slot past the last axis is not zero."
 unfoldable pub namesEach : ℕ → List ℕ → Bool
@@ -64,9 +62,9 @@ badExponents a =
 unfoldable pub lengthChecks : ℕ → List ℕ → List Check
 lengthChecks n ds = check 3 (badAxes n) ∷ check 4 (some badLength ds) ∷ check 5 (tooManyPoints ds) ∷ []
 
--- planning: 3 to 7
+-- planning: 3 to 6
 unfoldable pub planningChecks : List ℕ → ℕ → List Check
-planningChecks ds p = lengthChecks (length ds) ds ++ (check 6 (tooManyBoards p) ∷ check 7 (noRoom ds p) ∷ [])
+planningChecks ds p = lengthChecks (length ds) ds ++ (check 6 (tooManyBoards p) ∷ [])
 
 -- a plan that is lent: 3 to 6, 8, 9
 unfoldable pub planChecks : Plan → List Check

@@ -21,11 +21,12 @@ pub enum Priced {
     Refused(u8),
 }
 
-// The answer of planning: refusal 0 with the plan and its prices, or the refusal with nothing but zeros.
+// The answer of planning: refusal 0 with the plan, its prices and how many of the boards asked for stand idle, or the refusal with nothing but zeros.
 pub struct Planned {
     pub refusal: u8,
     pub plan: Plan,
     pub prices: Prices,
+    pub idle: u32,
 }
 
 // The axis numbers and the exponents, both in plan order.

@@ -4,3 +4,4 @@ pub mod Paper
 pub mod Groups
 pub mod Lined
 pub mod Beginnings
+pub mod Retired

@@ -11,7 +11,7 @@ use Rattle.plan_spec.specs.declared.types.Prices.{Prices}
 use Rattle.plan_spec.specs.Plans as Plans
 use Rattle.plan_spec.specs.Plans.{slotted}
 use Rattle.plan_spec.specs.Answers.{pricing}
-use Rattle.plan_spec.specs.Rule.{planOf, order, orderedExponents}
+use Rattle.plan_spec.specs.Rule.{order, orderedExponents, planWithin, idleBoards}
 use Rattle.plan_spec.specs.Refusals.{planningRefusal}
 use Rattle.run_spec.specs.Memory.{read}
 use Rattle.tape_spec.specs.Tapes.{campaign}
@@ -34,8 +34,8 @@ pub data Question : Type 0 where
   program : List ℕ → Question
 
 pub data Answer : Type 0 where
-  -- order, exponents in plan order, moved, added, A, T
-  planned : List ℕ → List ℕ → ℕ → ℕ → ℕ → ℕ → Answer
+  -- order, exponents in plan order, moved, added, A, T, idle boards
+  planned : List ℕ → List ℕ → ℕ → ℕ → ℕ → ℕ → ℕ → Answer
   refused : ℕ → Answer
   moves : ℕ → Answer
   adds : List ℤ → Answer
@@ -45,8 +45,8 @@ pub data Answer : Type 0 where
 
 unfoldable pub plannedOr : ℕ → List ℕ → ℕ → Answer
 plannedOr zero ds p =
-    let a = planOf ds p in
-    planned (order ds) (orderedExponents ds p) (Plans.moved a) (Plans.added a) (Plans.shareSize a) (Plans.stepCount a)
+    let a = planWithin ds p in
+    planned (order ds) (orderedExponents ds (a .p)) (Plans.moved a) (Plans.added a) (Plans.shareSize a) (Plans.stepCount a) (idleBoards ds p)
 plannedOr (suc n) ds p = refused (suc n)
 
 abbrev pub priced : Reply Prices → Answer
@@ -84,33 +84,33 @@ exampleOutput = text "plan 2 1 2 14 4\ndim 1 3 1\ndim 0 2 0\ngroup 2 5 3 -3\ngro
 unfoldable pub cases : List Case
 cases =
     -- "P1: length 5, p 2: exponent 2, moved 3, added 5, A 1, T 5."
-    case (planner (5 ∷ []) 2) (planned (0 ∷ []) (2 ∷ []) 3 5 1 5)
+    case (planner (5 ∷ []) 2) (planned (0 ∷ []) (2 ∷ []) 3 5 1 5 0)
     -- "P2: the tape above; T 6.": the tape, its output, its plan, the totals of each group
     ∷ case (tape (2 ∷ 3 ∷ []) 1 example) (bytes exampleTape)
     ∷ case (program exampleTape) (prints exampleOutput 6)
-    ∷ case (planner (2 ∷ 3 ∷ []) 1) (planned (1 ∷ 0 ∷ []) (1 ∷ 0 ∷ []) 2 14 4 6)
+    ∷ case (planner (2 ∷ 3 ∷ []) 1) (planned (1 ∷ 0 ∷ []) (1 ∷ 0 ∷ []) 2 14 4 6 0)
     ∷ case (sums (2 ∷ 3 ∷ []) example 2) (adds (pos 5 ∷ pos 3 ∷ negsuc 2 ∷ []))
     ∷ case (sums (2 ∷ 3 ∷ []) example 0) (adds (pos 5 ∷ []))
     ∷ case (sums (2 ∷ 3 ∷ []) example 1) (adds (pos 2 ∷ pos 3 ∷ []))
     -- "P3: 5, 3, p 2: exponents 2, 0; moved 9 (1, 1 ties)."
-    ∷ case (planner (5 ∷ 3 ∷ []) 2) (planned (0 ∷ 1 ∷ []) (2 ∷ 0 ∷ []) 9 33 5 8)
+    ∷ case (planner (5 ∷ 3 ∷ []) 2) (planned (0 ∷ 1 ∷ []) (2 ∷ 0 ∷ []) 9 33 5 8 0)
     ∷ case (plan (5 ∷ 3 ∷ []) (0 ∷ 1 ∷ []) (1 ∷ 1 ∷ []) 2) (moves 9)
-    -- "P4: 3, 2, p 2: exponents 1, 1; moved 6. p 3: refusal 7."
-    ∷ case (planner (3 ∷ 2 ∷ []) 2) (planned (0 ∷ 1 ∷ []) (1 ∷ 1 ∷ []) 6 14 3 10)
-    ∷ case (planner (3 ∷ 2 ∷ []) 3) (refused 7)
+    -- "P4: 3, 2, p 2: exponents 1, 1; moved 6."; p 3, by 7/12: "the second half of P4 becomes exponents 1, 1 with four boards idle"
+    ∷ case (planner (3 ∷ 2 ∷ []) 2) (planned (0 ∷ 1 ∷ []) (1 ∷ 1 ∷ []) 6 14 3 10 0)
+    ∷ case (planner (3 ∷ 2 ∷ []) 3) (planned (0 ∷ 1 ∷ []) (1 ∷ 1 ∷ []) 6 14 3 10 4)
     -- "P5: 2, 2, 2, p 2: 1, 1, 0 moves 10; 0, 1, 1 moves 15."
-    ∷ case (planner (2 ∷ 2 ∷ 2 ∷ []) 2) (planned (0 ∷ 1 ∷ 2 ∷ []) (1 ∷ 1 ∷ 0 ∷ []) 10 38 5 16)
+    ∷ case (planner (2 ∷ 2 ∷ 2 ∷ []) 2) (planned (0 ∷ 1 ∷ 2 ∷ []) (1 ∷ 1 ∷ 0 ∷ []) 10 38 5 16 0)
     ∷ case (plan (2 ∷ 2 ∷ 2 ∷ []) (0 ∷ 1 ∷ 2 ∷ []) (0 ∷ 1 ∷ 1 ∷ []) 2) (moves 15)
     -- "P6: axes 4 and 2 with exponents 0 and 1: order 0, 1 moves 5; order 1, 0 moves 4. The planner at p 1 moves 2."
     ∷ case (plan (4 ∷ 2 ∷ []) (0 ∷ 1 ∷ []) (0 ∷ 1 ∷ []) 1) (moves 5)
     ∷ case (plan (4 ∷ 2 ∷ []) (1 ∷ 0 ∷ []) (0 ∷ 1 ∷ []) 1) (moves 4)
-    ∷ case (planner (4 ∷ 2 ∷ []) 1) (planned (0 ∷ 1 ∷ []) (1 ∷ 0 ∷ []) 2 18 4 6)
+    ∷ case (planner (4 ∷ 2 ∷ []) 1) (planned (0 ∷ 1 ∷ []) (1 ∷ 0 ∷ []) 2 18 4 6 0)
     -- "P7: length 1, p 0: moved 0, added 1."
-    ∷ case (planner (1 ∷ []) 0) (planned (0 ∷ []) (0 ∷ []) 0 1 1 2)
+    ∷ case (planner (1 ∷ []) 0) (planned (0 ∷ []) (0 ∷ []) 0 1 1 2 0)
     -- "P8: 3, 3, p 0: order 0, 1; added 21."
-    ∷ case (planner (3 ∷ 3 ∷ []) 0) (planned (0 ∷ 1 ∷ []) (0 ∷ 0 ∷ []) 0 21 6 5)
+    ∷ case (planner (3 ∷ 3 ∷ []) 0) (planned (0 ∷ 1 ∷ []) (0 ∷ 0 ∷ []) 0 21 6 5 0)
     -- "P9: 4,096 and 4,096 pass; 4,096 and 4,097 give 5."
-    ∷ case (planner (4096 ∷ 4096 ∷ []) 0) (planned (0 ∷ 1 ∷ []) (0 ∷ 0 ∷ []) 0 33558528 8192 5)
+    ∷ case (planner (4096 ∷ 4096 ∷ []) 0) (planned (0 ∷ 1 ∷ []) (0 ∷ 0 ∷ []) 0 33558528 8192 5 0)
     ∷ case (planner (4096 ∷ 4097 ∷ []) 0) (refused 5)
     -- "P10: five points of −2,147,483,648 total −10,737,418,240."
     ∷ case (sums (5 ∷ []) (replicate 5 (negsuc 2147483647)) 0) (adds (negsuc 10737418239 ∷ []))

@@ -46,6 +46,10 @@ middle-axis-longest = record { tape = 65 ∷ 2 ∷ 0 ∷ 65 ∷ 3 ∷ 0 ∷ 65 �
 unfoldable pub readings-of-all-kinds : Case
 readings-of-all-kinds = record { tape = 65 ∷ 2 ∷ 0 ∷ 65 ∷ 3 ∷ 0 ∷ 66 ∷ 1 ∷ 77 ∷ 0 ∷ 0 ∷ 192 ∷ 62 ∷ 82 ∷ 2 ∷ 0 ∷ 249 ∷ 255 ∷ 255 ∷ 255 ∷ 75 ∷ 0 ∷ 0 ∷ 128 ∷ 188 ∷ 77 ∷ 215 ∷ 163 ∷ 128 ∷ 191 ∷ 86 ∷ 5 ∷ 0 ∷ 0 ∷ 0 ∷ 69 ∷ []; output = text "plan 2 1 2 14 4\ndim 1 3 1\ndim 0 2 0\ngroup 2 -1524 -107 -2\ngroup 0 -1633\ngroup 1 24 -1657\nend 3\n" }
 
+-- lengths 3, 2, p 3, of which 2 is used: four boards idle
+unfoldable pub boards-idle : Case
+boards-idle = record { tape = 65 ∷ 3 ∷ 0 ∷ 65 ∷ 2 ∷ 0 ∷ 66 ∷ 3 ∷ 86 ∷ 1 ∷ 0 ∷ 0 ∷ 0 ∷ 86 ∷ 2 ∷ 0 ∷ 0 ∷ 0 ∷ 86 ∷ 3 ∷ 0 ∷ 0 ∷ 0 ∷ 86 ∷ 4 ∷ 0 ∷ 0 ∷ 0 ∷ 86 ∷ 5 ∷ 0 ∷ 0 ∷ 0 ∷ 86 ∷ 6 ∷ 0 ∷ 0 ∷ 0 ∷ 69 ∷ []; output = text "plan 2 2 6 14 3\ndim 0 3 1\ndim 1 2 1\ngroup 1 3 7 11\ngroup 0 21\ngroup 2 9 12\nend 3\n" }
+
 -- refused 2: no 45
 unfoldable pub no-end : Case
 no-end = record { tape = 65 ∷ 2 ∷ 0 ∷ 66 ∷ 1 ∷ 86 ∷ 1 ∷ 0 ∷ 0 ∷ 0 ∷ 86 ∷ 2 ∷ 0 ∷ 0 ∷ 0 ∷ []; output = text "refused 2\n" }
@@ -65,10 +69,6 @@ too-many-points = record { tape = 65 ∷ 0 ∷ 8 ∷ 65 ∷ 1 ∷ 32 ∷ 66 ∷ 
 -- refused 6: p 11
 unfoldable pub high-p : Case
 high-p = record { tape = 65 ∷ 0 ∷ 16 ∷ 66 ∷ 11 ∷ 69 ∷ []; output = text "refused 6\n" }
-
--- refused 7: lengths 2, 3, p 3
-unfoldable pub too-many-boards : Case
-too-many-boards = record { tape = 65 ∷ 2 ∷ 0 ∷ 65 ∷ 3 ∷ 0 ∷ 66 ∷ 3 ∷ 86 ∷ 1 ∷ 0 ∷ 0 ∷ 0 ∷ 86 ∷ 2 ∷ 0 ∷ 0 ∷ 0 ∷ 86 ∷ 3 ∷ 0 ∷ 0 ∷ 0 ∷ 86 ∷ 4 ∷ 0 ∷ 0 ∷ 0 ∷ 86 ∷ 5 ∷ 0 ∷ 0 ∷ 0 ∷ 86 ∷ 6 ∷ 0 ∷ 0 ∷ 0 ∷ 69 ∷ []; output = text "refused 7\n" }
 
 -- refused 10: lengths 2, 2 and three points
 unfoldable pub point-missing : Case
@@ -95,20 +95,20 @@ unfoldable pub product-before-p : Case
 product-before-p = record { tape = 65 ∷ 255 ∷ 255 ∷ 65 ∷ 255 ∷ 255 ∷ 66 ∷ 11 ∷ 69 ∷ []; output = text "refused 5\n" }
 
 -- refused 6: p 11 for length 2, and one point
-unfoldable pub p-before-boards : Case
-p-before-boards = record { tape = 65 ∷ 2 ∷ 0 ∷ 66 ∷ 11 ∷ 86 ∷ 1 ∷ 0 ∷ 0 ∷ 0 ∷ 69 ∷ []; output = text "refused 6\n" }
+unfoldable pub p-before-points : Case
+p-before-points = record { tape = 65 ∷ 2 ∷ 0 ∷ 66 ∷ 11 ∷ 86 ∷ 1 ∷ 0 ∷ 0 ∷ 0 ∷ 69 ∷ []; output = text "refused 6\n" }
 
--- refused 7: p 2 for length 2, and 9000 points
-unfoldable pub boards-before-points : Case
-boards-before-points = record { tape = 65 ∷ 2 ∷ 0 ∷ 66 ∷ 2 ∷ 82 ∷ 39 ∷ 35 ∷ 1 ∷ 0 ∷ 0 ∷ 0 ∷ 82 ∷ 1 ∷ 0 ∷ 2 ∷ 0 ∷ 0 ∷ 0 ∷ 69 ∷ []; output = text "refused 7\n" }
+-- refused 10: p 2 for length 2, of which 1 is used, and 9000 points
+unfoldable pub idle-before-points : Case
+idle-before-points = record { tape = 65 ∷ 2 ∷ 0 ∷ 66 ∷ 2 ∷ 82 ∷ 39 ∷ 35 ∷ 1 ∷ 0 ∷ 0 ∷ 0 ∷ 82 ∷ 1 ∷ 0 ∷ 2 ∷ 0 ∷ 0 ∷ 0 ∷ 69 ∷ []; output = text "refused 10\n" }
 
 -- refused 10: 9000 points for length 2
 unfoldable pub points-before-limit : Case
 points-before-limit = record { tape = 65 ∷ 2 ∷ 0 ∷ 66 ∷ 0 ∷ 82 ∷ 39 ∷ 35 ∷ 1 ∷ 0 ∷ 0 ∷ 0 ∷ 82 ∷ 1 ∷ 0 ∷ 2 ∷ 0 ∷ 0 ∷ 0 ∷ 69 ∷ []; output = text "refused 10\n" }
 
 unfoldable pub cases : List Case
-unfolding longer-axis-second one-axis three-axes lowest-points both-axes-split two-axes-of-one middle-axis-longest readings-of-all-kinds no-end no-axes zero-length too-many-points high-p too-many-boards point-missing past-the-program form-before-length axes-before-length length-before-product product-before-p p-before-boards boards-before-points points-before-limit
-cases = longer-axis-second ∷ one-axis ∷ three-axes ∷ lowest-points ∷ both-axes-split ∷ two-axes-of-one ∷ middle-axis-longest ∷ readings-of-all-kinds ∷ no-end ∷ no-axes ∷ zero-length ∷ too-many-points ∷ high-p ∷ too-many-boards ∷ point-missing ∷ past-the-program ∷ form-before-length ∷ axes-before-length ∷ length-before-product ∷ product-before-p ∷ p-before-boards ∷ boards-before-points ∷ points-before-limit ∷ []
+unfolding longer-axis-second one-axis three-axes lowest-points both-axes-split two-axes-of-one middle-axis-longest readings-of-all-kinds boards-idle no-end no-axes zero-length too-many-points high-p point-missing past-the-program form-before-length axes-before-length length-before-product product-before-p p-before-points idle-before-points points-before-limit
+cases = longer-axis-second ∷ one-axis ∷ three-axes ∷ lowest-points ∷ both-axes-split ∷ two-axes-of-one ∷ middle-axis-longest ∷ readings-of-all-kinds ∷ boards-idle ∷ no-end ∷ no-axes ∷ zero-length ∷ too-many-points ∷ high-p ∷ point-missing ∷ past-the-program ∷ form-before-length ∷ axes-before-length ∷ length-before-product ∷ product-before-p ∷ p-before-points ∷ idle-before-points ∷ points-before-limit ∷ []
 
 -- taken: 8192 points
 unfoldable pub most-points : Limit
@@ -142,6 +142,14 @@ longest-tape = record { tape = replicate 65536 0; refusal = 2 }
 unfoldable pub one-byte-more : Limit
 one-byte-more = record { tape = replicate 65537 0; refusal = 1 }
 
+-- taken: 256 boards of 32 cells each, and 768 idle
+unfoldable pub most-shares-in-use : Limit
+most-shares-in-use = record { tape = 65 ∷ 7 ∷ 0 ∷ 65 ∷ 7 ∷ 0 ∷ 65 ∷ 7 ∷ 0 ∷ 65 ∷ 7 ∷ 0 ∷ 66 ∷ 10 ∷ 82 ∷ 97 ∷ 9 ∷ 1 ∷ 0 ∷ 0 ∷ 0 ∷ 69 ∷ []; refusal = 0 }
+
+-- refused 11: 256 boards of 48 cells each, and 256 idle
+unfoldable pub in-use-past-the-limit : Limit
+in-use-past-the-limit = record { tape = 65 ∷ 7 ∷ 0 ∷ 65 ∷ 7 ∷ 0 ∷ 65 ∷ 7 ∷ 0 ∷ 65 ∷ 7 ∷ 0 ∷ 65 ∷ 1 ∷ 0 ∷ 66 ∷ 9 ∷ 82 ∷ 97 ∷ 9 ∷ 1 ∷ 0 ∷ 0 ∷ 0 ∷ 69 ∷ []; refusal = 11 }
+
 -- refused 14: an infinite reading
 unfoldable pub infinite-reading : Limit
 infinite-reading = record { tape = 65 ∷ 2 ∷ 0 ∷ 66 ∷ 1 ∷ 86 ∷ 1 ∷ 0 ∷ 0 ∷ 0 ∷ 77 ∷ 0 ∷ 0 ∷ 128 ∷ 255 ∷ 69 ∷ []; refusal = 14 }
@@ -167,5 +175,5 @@ unfoldable pub reading-before-length : Limit
 reading-before-length = record { tape = 65 ∷ 0 ∷ 0 ∷ 66 ∷ 1 ∷ 77 ∷ 0 ∷ 0 ∷ 128 ∷ 255 ∷ 69 ∷ []; refusal = 14 }
 
 unfoldable pub limits : List Limit
-unfolding most-points one-point-more most-cells one-cell-more most-shares one-cell-a-share-more longest-tape one-byte-more infinite-reading far-reading infinite-before-far far-before-infinite form-before-reading reading-before-length
-limits = most-points ∷ one-point-more ∷ most-cells ∷ one-cell-more ∷ most-shares ∷ one-cell-a-share-more ∷ longest-tape ∷ one-byte-more ∷ infinite-reading ∷ far-reading ∷ infinite-before-far ∷ far-before-infinite ∷ form-before-reading ∷ reading-before-length ∷ []
+unfolding most-points one-point-more most-cells one-cell-more most-shares one-cell-a-share-more longest-tape one-byte-more most-shares-in-use in-use-past-the-limit infinite-reading far-reading infinite-before-far far-before-infinite form-before-reading reading-before-length
+limits = most-points ∷ one-point-more ∷ most-cells ∷ one-cell-more ∷ most-shares ∷ one-cell-a-share-more ∷ longest-tape ∷ one-byte-more ∷ most-shares-in-use ∷ in-use-past-the-limit ∷ infinite-reading ∷ far-reading ∷ infinite-before-far ∷ far-before-infinite ∷ form-before-reading ∷ reading-before-length ∷ []

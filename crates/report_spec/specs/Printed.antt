@@ -10,7 +10,7 @@ use Rattle.cube_spec.specs.Limits.{programLimit}
 use Rattle.cube_spec.specs.Choices.{totals}
 use Rattle.cube_spec.specs.Checks.{Check, check, first}
 use Rattle.plan_spec.specs.Plans.{PlanLists, axisAt, lengthAt, exponentAt, moved, added, shareSize}
-use Rattle.plan_spec.specs.Rule.{planOf}
+use Rattle.plan_spec.specs.Rule.{planWithin}
 use Rattle.plan_spec.specs.Refusals.{planningChecks}
 use Rattle.rack_spec.specs.Grids.{gridOf, maskOf}
 use Rattle.rack_spec.specs.Steps.{TreeStep, expand, transfer, finish, steps}
@@ -20,11 +20,11 @@ use Rattle.tape_spec.specs.Tapes.{Campaign, campaign}
 use Rattle.tape_spec.specs.Reading.{orEmpty, scanChecks}
 use Rattle.report_spec.specs.Text.{text, decimal, signed}
 
--- ---- the refusals of the program: 1, 2, then 14 or 15 by the first bad reading, 3 to 7, 10, 11
+-- ---- the refusals of the program: 1, 2, then 14 or 15 by the first bad reading, 3 to 6, 10, 11
 
--- the planner's plan of a campaign
+-- the planner's plan of a campaign: "The printed p is the one used."
 abbrev pub planFor : Campaign → PlanLists
-planFor c = planOf (c .lengths) (c .p)
+planFor c = planWithin (c .lengths) (c .p)
 
 -- 11. "in the program either count passes 8,192": the points, and 2^p·A
 unfoldable pub tooLarge : Campaign → Bool

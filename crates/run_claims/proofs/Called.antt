@@ -13,6 +13,7 @@ use borrow.Fn.World.{ArgsD, ResD}
 use denote.Triple.Clauses.{AtExit}
 use Rattle.cube_spec.specs.Checks.{gives}
 use Rattle.plan_spec.specs.Plans.{Sound, moved, boardCount, stepCount, listsOf}
+use Rattle.plan_spec.specs.Rule.{powerUsed}
 use Rattle.plan_spec.specs.Answers.{pricesOf}
 use Rattle.plan_spec.specs.declared.types.Plan.{Plan}
 use Rattle.rack_spec.specs.Finding.{planGrid}
@@ -158,7 +159,7 @@ module _ (κp : Lfts 1) (ap′ : ArgsD plan.signature κp) (rp : ResD plan.signa
         → a₁ .0 ≡ rp .plan → a₂ .0 ≡ rp .plan → a₁ .1 .0 ≡ c .to → a₂ .1 .0 ≡ 1 → a₁ .1 .1 .0 ≡ b → a₂ .1 .1 .0 ≡ b
         → Holds (heldReply r₁) (heldReply r₂)
 
-  runs : Runnable (now (ap′ .0)) (ap′ .1 .0) rp
+  runs : Runnable (now (ap′ .0)) (powerUsed (now (ap′ .0)) (ap′ .1 .0)) rp
   runs = planned-runs κp ap′ rp sp hp zero-refusal
 
   price : rp .prices .moved ≡ moved (listsOf (rp .plan))

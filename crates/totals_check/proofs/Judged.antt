@@ -11,15 +11,15 @@ use Rattle.cube_spec.specs.Limits.{programLimit, padded}
 use Rattle.cube_spec.specs.Choices.{points}
 use Rattle.cube_spec.specs.Checks.{Check, check, first}
 use Rattle.plan_spec.specs.Plans.{PlanLists, listsOf, slotted}
-use Rattle.plan_spec.specs.Rule.{planOf}
+use Rattle.plan_spec.specs.Rule.{planOf, powerUsed, idleBoards}
 use Rattle.plan_spec.specs.Answers.{plannedAs, planning}
-use Rattle.plan_spec.specs.Refusals.{lengthChecks, planningChecks, planningRefusal, planRefusal}
+use Rattle.plan_spec.specs.Refusals.{planningChecks, planningRefusal, planRefusal}
 use Rattle.plan_spec.specs.Accepted.{PlanningAccepted}
 use Rattle.plan_spec.specs.declared.types.Planned.{Planned}
-use Rattle.plan_spec.proofs.Accepting.{planning-accepted, take-padded, padded-length, lists-slotted, planned-accepted}
+use Rattle.plan_spec.proofs.Accepting.{planning-numbered, planning-accepted, take-padded, padded-length, lists-slotted, planned-accepted}
 use Rattle.plan_spec.proofs.Answering.{too-many, refusal-of, plan-of}
 use Rattle.plan_spec.proofs.Demand.{plan-sound}
-use Rattle.cube_spec.proofs.Dues.{Numbered, first-due, first-passed}
+use Rattle.cube_spec.proofs.Dues.{first-due, first-passed}
 use Rattle.tape_spec.specs.Tapes.{commands, Campaign, campaign}
 use Rattle.tape_spec.specs.declared.types.Scan.{Scan}
 use Rattle.tape_spec.specs.Reading.{orEmpty, scanRefusal, commandCount, scannedAs, scanning}
@@ -44,22 +44,21 @@ tells (suc n) m c f e h = absurd (let k : f .refusal ≡ suc n = ap (λ f. f .re
 not-three : _≡_ {A = ℕ} 3 0 → ⊥
 not-three e = omega arith
 
-pub planning-numbered : (ds : List ℕ) (p : ℕ) → Numbered (planningChecks ds p)
-unfolding planningChecks lengthChecks
-planning-numbered ds p = (omega arith, (omega arith, (omega arith, (omega arith, (omega arith, tt)))))
-
 -- planning's answer carries its refusal
 module _ (tape : List ℕ) (f : Scan) (e : f ≡ scanning tape) where
   abbrev c : Campaign
   c = orEmpty (campaign tape)
 
+  abbrev idle : ℕ
+  idle = idleBoards (c .lengths) (c .p)
+
   abbrev counts : List Check
   counts = check 10 (badArray (planFor c) (length (c .points))) ∷ check 11 (tooLarge c) ∷ []
 
   -- a refusal that is due
-  pub judged-as : (n : ℕ) (r : Planned) → ((a : PlanLists) → r ≡ plannedAs n a) → n ≡ programRefusal tape → r ≡ judging tape
+  pub judged-as : (n : ℕ) (r : Planned) → ((k : ℕ) (a : PlanLists) → r ≡ plannedAs n k a) → n ≡ programRefusal tape → r ≡ judging tape
   unfolding judging
-  judged-as n r h k = h (planFor c) ∙ ap (λ n. plannedAs n (planFor c)) k
+  judged-as n r h k = h idle (planFor c) ∙ ap (λ n. plannedAs n idle (planFor c)) k
 
   pub scan-refused : (f .refusal ≡ 0 → ⊥) → f .refusal ≡ programRefusal tape
   unfolding programRefusal programChecks
@@ -87,32 +86,32 @@ module _ (tape : List ℕ) (f : Scan) (e : f ≡ scanning tape) where
 
       -- planning's own refusal
       module _ (r : Planned) (er : r ≡ planning (take (f .axes) (f .lengths)) (f .p)) where
-        planned : r ≡ plannedAs (planningRefusal (c .lengths) (c .p)) (planFor c)
+        planned : r ≡ plannedAs (planningRefusal (c .lengths) (c .p)) idle (planFor c)
         unfolding planning
         planned = er ∙ ap₂ planning lengths-are (told .p)
 
         refusal-is : r .refusal ≡ planningRefusal (c .lengths) (c .p)
-        refusal-is = ap (λ r. r .refusal) planned ∙ refusal-of (planningRefusal (c .lengths) (c .p)) (planFor c)
+        refusal-is = ap (λ r. r .refusal) planned ∙ refusal-of (planningRefusal (c .lengths) (c .p)) idle (planFor c)
 
         pub planning-refused : (r .refusal ≡ 0 → ⊥) → r ≡ judging tape
         unfolding judging
-        planning-refused z = planned ∙ ap (λ n. plannedAs n (planFor c)) (sym (passed-scan ∙ first-due (planningChecks (c .lengths) (c .p)) counts (λ y. z (refusal-is ∙ (unfold planningRefusal in y))) ∙ (unfold planningRefusal in refl)))
+        planning-refused z = planned ∙ ap (λ n. plannedAs n idle (planFor c)) (sym (passed-scan ∙ first-due (planningChecks (c .lengths) (c .p)) counts (λ y. z (refusal-is ∙ (unfold planningRefusal in y))) ∙ (unfold planningRefusal in refl)))
 
         module _ (z : r .refusal ≡ 0) where
           none-due : planningRefusal (c .lengths) (c .p) ≡ 0
           none-due = sym refusal-is ∙ z
 
           plan-is : r .plan ≡ slotted (planFor c)
-          plan-is = ap (λ r. r .plan) planned ∙ plan-of (planningRefusal (c .lengths) (c .p)) (planFor c) none-due
+          plan-is = ap (λ r. r .plan) planned ∙ plan-of (planningRefusal (c .lengths) (c .p)) idle (planFor c) none-due
 
           pub plan-accepted : planRefusal (r .plan) ≡ 0
           plan-accepted = ap planRefusal plan-is ∙ planned-accepted (c .lengths) (c .p) none-due
 
-          accepted : PlanningAccepted (c .lengths) (c .p)
+          accepted : PlanningAccepted (c .lengths) (powerUsed (c .lengths) (c .p))
           accepted = planning-accepted (c .lengths) (c .p) none-due
 
           lists-are : listsOf (r .plan) ≡ planFor c
-          lists-are = ap listsOf plan-is ∙ lists-slotted (planFor c) (plan-sound (c .lengths) (c .p) (accepted .lengths .some) (accepted .enough)) (unfold planOf in accepted .lengths .few)
+          lists-are = ap listsOf plan-is ∙ lists-slotted (planFor c) (plan-sound (c .lengths) (powerUsed (c .lengths) (c .p)) (accepted .lengths .some) (accepted .enough)) (unfold planOf in accepted .lengths .few)
 
           counted : programRefusal tape ≡ first counts
           counted = passed-scan ∙ first-passed (planningChecks (c .lengths) (c .p)) counts (planning-numbered (c .lengths) (c .p)) (unfold planningRefusal in none-due)
@@ -146,4 +145,4 @@ module _ (tape : List ℕ) (f : Scan) (e : f ≡ scanning tape) where
 
                 pub taken : w ≤ 8192 → r ≡ judging tape
                 unfolding judging
-                taken g = planned ∙ ap₂ plannedAs none-due refl ∙ ap (λ n. plannedAs n (planFor c)) (sym (large ∙ (unfold first tooLarge in rw (few-points, le-ltb programLimit (workCells (planFor c)) (let t = work-is in omega arith)) refl)))
+                taken g = planned ∙ ap (λ n. plannedAs n idle (planFor c)) none-due ∙ ap (λ n. plannedAs n idle (planFor c)) (sym (large ∙ (unfold first tooLarge in rw (few-points, le-ltb programLimit (workCells (planFor c)) (let t = work-is in omega arith)) refl)))

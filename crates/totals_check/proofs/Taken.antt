@@ -14,13 +14,13 @@ use Rattle.cube_spec.specs.Choices.{points}
 use Rattle.cube_spec.specs.Checks.{Check, check, first}
 use Rattle.cube_spec.proofs.Sums.{by}
 use Rattle.plan_spec.specs.Plans.{Sound, listsOf, slotted}
-use Rattle.plan_spec.specs.Rule.{planOf}
+use Rattle.plan_spec.specs.Rule.{planOf, powerUsed, idleBoards}
 use Rattle.plan_spec.specs.Answers.{pricesOf}
 use Rattle.plan_spec.specs.Refusals.{planningChecks, planningRefusal, planRefusal}
 use Rattle.plan_spec.specs.Accepted.{PlanningAccepted, Accepted}
 use Rattle.plan_spec.specs.declared.types.Planned.{Planned}
 use Rattle.plan_spec.proofs.Answering.{refusal-of, plan-of, prices-of}
-use Rattle.plan_spec.proofs.Accepting.{planning-accepted, lists-slotted, slotted-accepted, planned-accepted, or-none}
+use Rattle.plan_spec.proofs.Accepting.{planning-numbered, planning-accepted, lists-slotted, slotted-accepted, planned-accepted, or-none}
 use Rattle.plan_spec.proofs.Demand.{plan-sound}
 use Rattle.cube_spec.proofs.Naturals.{clash}
 use Rattle.cube_spec.proofs.Dues.{none-first, none-both}
@@ -30,7 +30,6 @@ use Rattle.tape_spec.proofs.Refusing.{none-of-scan, after-scan, fills}
 use Rattle.run_spec.specs.Entries.{badArray, workCells}
 use Rattle.report_spec.specs.Printed.{planFor, tooLarge, programChecks, programRefusal}
 use Rattle.totals_check.specs.Judging.{judging}
-use Rattle.totals_check.proofs.Judged.{planning-numbered}
 
 same : (m n : ℕ) → not (eqb m n) ≡ false → m ≡ n
 same m n e = by (eqb m n) (λ t. eqb-true m n t) (λ t. clash (rw t at e))
@@ -41,7 +40,7 @@ module _ (tape : List ℕ) (judged : Planned) (e : judged ≡ judging tape) wher
 
   pub refusal-is : judged .refusal ≡ programRefusal tape
   unfolding judging
-  refusal-is = ap (λ r. r .refusal) e ∙ refusal-of (programRefusal tape) (planFor c)
+  refusal-is = ap (λ r. r .refusal) e ∙ refusal-of (programRefusal tape) (idleBoards (c .lengths) (c .p)) (planFor c)
 
   module _ (z : judged .refusal ≡ 0) where
     pub none-due : programRefusal tape ≡ 0
@@ -49,11 +48,11 @@ module _ (tape : List ℕ) (judged : Planned) (e : judged ≡ judging tape) wher
 
     pub plan-is : judged .plan ≡ slotted (planFor c)
     unfolding judging
-    plan-is = ap (λ r. r .plan) e ∙ plan-of (programRefusal tape) (planFor c) none-due
+    plan-is = ap (λ r. r .plan) e ∙ plan-of (programRefusal tape) (idleBoards (c .lengths) (c .p)) (planFor c) none-due
 
     prices-are : judged .prices ≡ pricesOf (planFor c)
     unfolding judging
-    prices-are = ap (λ r. r .prices) e ∙ prices-of (programRefusal tape) (planFor c) none-due
+    prices-are = ap (λ r. r .prices) e ∙ prices-of (programRefusal tape) (idleBoards (c .lengths) (c .p)) (planFor c) none-due
 
     abbrev counts : List Check
     counts = check 10 (badArray (planFor c) (length (c .points))) ∷ check 11 (tooLarge c) ∷ []
@@ -69,14 +68,14 @@ module _ (tape : List ℕ) (judged : Planned) (e : judged ≡ judging tape) wher
     unfolding planningRefusal
     planned = parted .0
 
-    accepted : PlanningAccepted (c .lengths) (c .p)
+    accepted : PlanningAccepted (c .lengths) (powerUsed (c .lengths) (c .p))
     accepted = planning-accepted (c .lengths) (c .p) planned
 
     pub plan-passed : planRefusal (judged .plan) ≡ 0
     plan-passed = ap planRefusal plan-is ∙ planned-accepted (c .lengths) (c .p) planned
 
     sound : Sound (planFor c)
-    sound = plan-sound (c .lengths) (c .p) (accepted .lengths .some) (accepted .enough)
+    sound = plan-sound (c .lengths) (powerUsed (c .lengths) (c .p)) (accepted .lengths .some) (accepted .enough)
 
     pub plan-accepted : Accepted (judged .plan)
     plan-accepted = rw plan-is (slotted-accepted (planFor c) (unfold planOf in accepted .lengths) (unfold planOf in accepted .boards) sound)

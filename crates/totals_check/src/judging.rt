@@ -19,7 +19,7 @@ fn plan_first(lengths: &[u32], n: usize, p: u8) -> Planned
     plan(&lengths[0..n], p)
 }
 
-// 1, 2, 14 or 15, 3 to 7, 10 and 11, in order: the refusal alone, or 0 with the plan and its prices.
+// 1, 2, 14 or 15, 3 to 6, 10 and 11, in order: the refusal alone, or 0 with the plan, its prices and the idle boards.
 pub fn judge(tape: &[u8]) -> Planned
     ensures { λ r. ⌜ r ≡ judging (now (tape .entry)) ⌝ }
 {

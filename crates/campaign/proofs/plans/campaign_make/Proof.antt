@@ -8,14 +8,14 @@ returns : tie.Need-returns
 returns c =
     let a = c .before .before in
     let s = a .before .before .before .before .before .args in
-    calling.make-refused _ _ (s .small .now) (s .slots .now) (s .prices .now) _ (a .plan .ensures) (c .if1 .taken)
+    calling.make-refused _ _ (s .small .now) (s .slots .now) (s .cells .now) _ (a .plan .ensures) (c .if1 .taken)
 
 returns-2 : tie.Need-returns-2
 returns-2 c =
     let e1 = c .before in
     let a = e1 .before .before in
     let s = a .before .before .before .before .before .args in
-    calling.wrong-small _ _ (s .small .now) (s .slots .now) (s .prices .now) _ (a .plan .ensures) (e1 .if1 .left) (c .if2 .taken)
+    calling.wrong-small _ _ (s .small .now) (s .slots .now) (s .cells .now) _ (a .plan .ensures) (e1 .if1 .left) (c .if2 .taken)
 
 returns-3 : tie.Need-returns-3
 returns-3 c =
@@ -23,7 +23,7 @@ returns-3 c =
     let e1 = e2 .before in
     let a = e1 .before .before in
     let s = a .before .before .before .before .before .args in
-    calling.wrong-slots _ _ (s .small .now) (s .slots .now) (s .prices .now) _ (a .plan .ensures) (e1 .if1 .left) (e2 .if2 .left) (c .if3 .taken)
+    calling.wrong-slots _ _ (s .small .now) (s .slots .now) (s .cells .now) _ (a .plan .ensures) (e1 .if1 .left) (e2 .if2 .left) (c .if3 .taken)
 
 returns-4 : tie.Need-returns-4
 returns-4 c =
@@ -32,7 +32,7 @@ returns-4 c =
     let e1 = e2 .before in
     let a = e1 .before .before in
     let s = a .before .before .before .before .before .args in
-    calling.wrong-prices _ _ (s .small .now) (s .slots .now) (s .prices .now) _ (a .plan .ensures) (e1 .if1 .left) (e2 .if2 .left) (e3 .if3 .left) (c .if4 .taken)
+    calling.wrong-cells _ _ (s .small .now) (s .slots .now) (s .cells .now) _ (a .plan .ensures) (e1 .if1 .left) (e2 .if2 .left) (e3 .if3 .left) (c .if4 .taken)
 
 returns-5 : tie.Need-returns-5
 returns-5 c =
@@ -44,7 +44,7 @@ returns-5 c =
     let e1 = e2 .before in
     let a = e1 .before .before in
     let s = a .before .before .before .before .before .args in
-    calling.make-given _ _ (s .small .now) (s .slots .now) (s .prices .now) _ (a .plan .ensures) (e1 .if1 .left) (e2 .if2 .left) (e3 .if3 .left) (e4 .if4 .left) _ _ _ _ (d .put-plan .ensures .0) (d .put-plan .ensures .1) (r .put-prices .ensures .0) (r .put-prices .ensures .1)
+    calling.make-given _ _ (s .small .now) (s .slots .now) (s .cells .now) _ (a .plan .ensures) (e1 .if1 .left) (e2 .if2 .left) (e3 .if3 .left) (e4 .if4 .left) _ _ _ _ (d .put-plan .ensures .0) (d .put-plan .ensures .1) (r .put-planned .ensures .0) (r .put-planned .ensures .1)
 
 pub campaign-make-spec : {M : Type 1} → statement M
 campaign-make-spec =

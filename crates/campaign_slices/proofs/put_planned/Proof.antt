@@ -1,0 +1,26 @@
+-- `campaign_slices::put_planned` meets its contract.
+use borrow.Author.Needs.{needs}
+use Rattle.campaign_slices.proofs.Racking as racking
+use Rattle.campaign_slices.proofs.Lending as lending
+use Rattle.campaign_slices.proofs.put_planned.Tie as tie
+use Rattle.campaign_slices.proofs.put_planned.Statement.{statement}
+
+returns : tie.Need-returns
+returns c = let s = c .before in lending.wrong 4 (s .args .out .now) _ (c .if1 .taken)
+
+returns-2 : tie.Need-returns-2
+returns-2 c =
+    let s = c .before in
+    lending.right 4 (s .args .out .now) _ (c .if1 .left) _ (racking.four-cells (s .args .out .now) _ _ _ _ (c .if1 .left))
+
+pub put-planned-spec : {M : Type 1} → statement M
+put-planned-spec =
+    tie.close
+    (tie.spec
+    returns
+    (λ c. search needs)
+    (λ c. search needs)
+    (λ c. search needs)
+    (λ c. search needs)
+    (λ c. search needs)
+    returns-2)
