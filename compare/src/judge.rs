@@ -29,17 +29,16 @@ pub fn lengths(lengths: &[u64]) -> Result<(), Refusal> {
     refuse_if(product(lengths) > u128::from(MOST_POINTS), 5)
 }
 
-/// Refusals 3 to 7: what the planner is asked for.
+/// Refusals 3 to 6: what the planner is asked for. 7 is retired: where the axes have too few
+/// halvings for p, it uses fewer boards.
 pub fn request(axis_lengths: &[u64], p: u32) -> Result<(), Refusal> {
     lengths(axis_lengths)?;
-    refuse_if(p > HIGHEST_P, 6)?;
-    refuse_if(p > axis_lengths.iter().map(|d| d.ilog2()).sum(), 7)
+    refuse_if(p > HIGHEST_P, 6)
 }
 
 /// Refusals 3 to 6, 8 and 9: a plan from anyone.
 pub fn plan(plan: &Plan) -> Result<(), Refusal> {
-    lengths(&plan.lengths)?;
-    refuse_if(plan.p > HIGHEST_P, 6)?;
+    request(&plan.lengths, plan.p)?;
     let axes = plan.lengths.len();
     let mut named = plan.order.clone();
     named.sort_unstable();

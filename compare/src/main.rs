@@ -3,7 +3,7 @@ use std::process::ExitCode;
 use std::{env, io};
 
 use compare::judge::Refusal;
-use compare::plan::{planned, Plan};
+use compare::plan::{planning, Planned};
 use compare::{
     bench, check, description, listed, make, patterns, price, scans, show, table, totals,
 };
@@ -14,7 +14,8 @@ usage: compare totals                   tape on standard input, totals on standa
                                         standard output
        compare show                     report on standard input, its tables on standard
                                         output
-       compare plan P LENGTH..          the planner's plan and its prices
+       compare plan P LENGTH..          the planner's plan, its prices, and how many of the
+                                        2^P boards stand idle
        compare tapes SEED N DIR         write N made tapes, each with what is printed for it
        compare check PROGRAM SEED N     run a program on N made tapes and compare
        compare bench [PROGRAM]          time the largest campaigns, each as a whole process
@@ -50,7 +51,7 @@ fn run(words: &[&str]) -> Option<io::Result<bool>> {
         ["plan", p, ref lengths @ ..] => {
             let lengths: Option<Vec<u64>> =
                 lengths.iter().map(|length| length.parse().ok()).collect();
-            print_plan(planned(&lengths?, p.parse().ok()?));
+            print_plan(planning(&lengths?, p.parse().ok()?));
             done(Ok(()))
         }
         ["tapes", seed, count, folder] => {
@@ -80,9 +81,9 @@ fn module(topic: &str) -> Option<String> {
     }
 }
 
-fn print_plan(plan: Result<Plan, Refusal>) {
-    let plan = match plan {
-        Ok(plan) => plan,
+fn print_plan(planned: Result<Planned, Refusal>) {
+    let Planned { plan, idle } = match planned {
+        Ok(planned) => planned,
         Err(Refusal(number)) => return println!("refused {number}"),
     };
     let listed = |items: Vec<String>| items.join(" ");
@@ -93,6 +94,7 @@ fn print_plan(plan: Result<Plan, Refusal>) {
     println!("added {}", price::added(&plan));
     println!("A {}", plan.share());
     println!("T {}", price::step_count(&plan));
+    println!("idle {idle}");
 }
 
 fn main() -> ExitCode {

@@ -40,17 +40,38 @@ impl Plan {
     }
 }
 
-/// The planner: longest axis first, then p times the cheapest next halving.
-pub fn planned(lengths: &[u64], p: u32) -> Result<Plan, Refusal> {
+/// What the planner returns for a rack.
+#[derive(Clone, Debug, PartialEq, Eq)]
+pub struct Planned {
+    pub plan: Plan,
+    /// How many of the boards asked for the plan does not use.
+    pub idle: u64,
+}
+
+/// The planner: longest axis first, then the cheapest next halving, p times or until no axis has
+/// one left.
+pub fn planning(lengths: &[u64], p: u32) -> Result<Planned, Refusal> {
     judge::request(lengths, p)?;
     let order = longest_first(lengths);
     let mut exponents = vec![0; lengths.len()];
     for _ in 0..p {
-        let axis = cheapest_raise(lengths, &order, &exponents);
+        let Some(axis) = cheapest_raise(lengths, &order, &exponents) else { break };
         exponents[axis] += 1;
     }
+    let (idle, used) = (idle(p, &exponents), exponents.iter().sum());
     let lengths = lengths.to_vec();
-    Ok(Plan { lengths, order, exponents, p })
+    Ok(Planned { plan: Plan { lengths, order, exponents, p: used }, idle })
+}
+
+/// The planner's plan alone.
+pub fn planned(lengths: &[u64], p: u32) -> Result<Plan, Refusal> {
+    planning(lengths, p).map(|planned| planned.plan)
+}
+
+/// Boards are dealt out one to each box of the grid, until there is no box left.
+fn idle(p: u32, exponents: &[u32]) -> u64 {
+    let boxes: u64 = exponents.iter().map(|k| 1 << k).product();
+    (1 << p) - boxes
 }
 
 fn longest_first(lengths: &[u64]) -> Vec<usize> {
@@ -60,15 +81,14 @@ fn longest_first(lengths: &[u64]) -> Vec<usize> {
 }
 
 /// The earlier place takes a tie: `min_by_key` keeps the first of equals.
-fn cheapest_raise(lengths: &[u64], order: &[usize], exponents: &[u32]) -> usize {
+fn cheapest_raise(lengths: &[u64], order: &[usize], exponents: &[u32]) -> Option<usize> {
     let may_rise = |&place: &usize| {
         let axis = order[place];
         judge::fits(exponents[axis] + 1, lengths[axis])
     };
     let cost = |&place: &usize| weight(lengths, order, place) << exponents[order[place]];
     let places = (0..order.len()).filter(may_rise);
-    let place = places.min_by_key(cost);
-    order[place.expect("p is at most the sum of floor(log2 length)")]
+    places.min_by_key(cost).map(|place| order[place])
 }
 
 /// The weight of the axis at a place of the order, exact.

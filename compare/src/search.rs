@@ -1,5 +1,5 @@
 //! A search of small shapes: the least prices over every way with every grid
-//! division.
+//! division of the boards in use.
 
 use crate::choice::{self, Choice};
 use crate::judge;
@@ -10,11 +10,18 @@ pub struct Least {
     pub added: u64,
 }
 
-/// `None` when no grid division exists.
-pub fn least(lengths: &[u64], p: u32) -> Option<Least> {
-    let divisions = divisions(lengths, p);
-    let moved = divisions.iter().map(|exponents| least_moved(lengths, exponents)).min()?;
-    Some(Least { moved, added: least_added(lengths) })
+/// Of the boards asked for, those are divided that are in use.
+pub fn least(lengths: &[u64], p: u32) -> Least {
+    let divisions = divisions(lengths, in_use(lengths, p));
+    let moved = divisions.iter().map(|exponents| least_moved(lengths, exponents)).min();
+    let moved = moved.expect("the boards in use have a division");
+    Least { moved, added: least_added(lengths) }
+}
+
+/// The highest p up to the one asked for that has a division, found by trying each.
+pub fn in_use(lengths: &[u64], p: u32) -> u32 {
+    let divided = |&p: &u32| !divisions(lengths, p).is_empty();
+    (0..=p).rev().find(divided).expect("one board takes every axis whole")
 }
 
 /// Every exponent for each axis with 2^k at most its length, summing to p.

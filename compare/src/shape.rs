@@ -22,7 +22,7 @@ impl Shape {
         self.lengths.iter().map(|&length| u64::from(length)).collect()
     }
 
-    /// Whether a plan exists and the program's limit is kept.
+    /// Whether a plan is given and the program's limit is kept.
     pub fn is_taken(&self) -> bool {
         let plan = planned(&self.wide(), u32::from(self.p));
         plan.is_ok_and(|plan| judge::program_limit(self.points(), plan.work_area()).is_ok())
@@ -31,6 +31,10 @@ impl Shape {
     /// The sum of floor(log2 length).
     pub fn halvings(&self) -> u32 {
         self.lengths.iter().map(|length| length.ilog2()).sum()
+    }
+
+    pub fn uses_every_board(&self) -> bool {
+        u32::from(self.p) <= self.halvings()
     }
 
     pub fn longer(&self, axis: usize, by: u16) -> Shape {

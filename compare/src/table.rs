@@ -111,6 +111,7 @@ fn without_end(mut tape: Vec<u8>) -> Vec<u8> {
 
 fn cases() -> Vec<Case> {
     let mut cases = accepted();
+    cases.push(accepted_with_idle());
     cases.extend(refused());
     cases.extend(refused_for_the_first_of_several());
     cases
@@ -155,6 +156,14 @@ fn accepted() -> Vec<Case> {
     ]
 }
 
+fn accepted_with_idle() -> Case {
+    Case {
+        name: "boards-idle",
+        says: "lengths 3, 2, p 3, of which 2 is used: four boards idle",
+        tape: tape(&[3, 2], 3, &[1, 2, 3, 4, 5, 6]),
+    }
+}
+
 /// 38, -7 twice, -1562, -100 and 5 centimetres: a tie, a tie, and just less than a half.
 fn readings_of_all_kinds() -> Vec<Command> {
     let (one, two) = (metres(0.375), repeated(2, -7));
@@ -170,11 +179,6 @@ fn refused() -> Vec<Case> {
         case("zero-length", "refused 4: a length of 0", tape(&[2, 0], 0, &[])),
         case("too-many-points", "refused 5: lengths 2048, 8193", tape(&[2048, 8193], 0, &[1])),
         case("high-p", "refused 6: p 11", tape(&[4096], 11, &[])),
-        case(
-            "too-many-boards",
-            "refused 7: lengths 2, 3, p 3",
-            tape(&[2, 3], 3, &[1, 2, 3, 4, 5, 6]),
-        ),
         case(
             "point-missing",
             "refused 10: lengths 2, 2 and three points",
@@ -213,13 +217,13 @@ fn refused_for_the_first_of_several() -> Vec<Case> {
             tape(&[65535, 65535], 11, &[]),
         ),
         case(
-            "p-before-boards",
+            "p-before-points",
             "refused 6: p 11 for length 2, and one point",
             tape(&[2], 11, &[1]),
         ),
         case(
-            "boards-before-points",
-            "refused 7: p 2 for length 2, and 9000 points",
+            "idle-before-points",
+            "refused 10: p 2 for length 2, of which 1 is used, and 9000 points",
             nine_thousand(2),
         ),
         case("points-before-limit", "refused 10: 9000 points for length 2", nine_thousand(0)),

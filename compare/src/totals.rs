@@ -4,13 +4,13 @@ use std::io::{self, Read, Write};
 
 use crate::choice::{self, Choice};
 use crate::judge::{self, Refusal};
-use crate::plan::{planned, Plan};
+use crate::plan::{planning, Plan, Planned};
 use crate::price;
 use crate::tape::{self, LONGEST_TAPE};
 
 /// A campaign that the program takes.
 pub struct Campaign {
-    pub plan: Plan,
+    pub planned: Planned,
     pub points: Vec<i32>,
 }
 
@@ -37,19 +37,20 @@ fn print(bytes: &[u8], output: &mut impl Write) -> io::Result<()> {
     }
 }
 
-/// Refusals 1, 2, 14 or 15, 3 to 7, 10 and 11, in order. Points are stored last of all.
+/// Refusals 1, 2, 14 or 15, 3 to 6, 10 and 11, in order. Points are stored last of all.
 pub fn accepted(bytes: &[u8]) -> Result<Campaign, Refusal> {
     let tape = tape::read(bytes)?;
-    let plan = planned(&tape.lengths, tape.p)?;
+    let planned = planning(&tape.lengths, tape.p)?;
     let count = tape.point_count();
     judge::points(&tape.lengths, count)?;
-    judge::program_limit(count, plan.work_area())?;
+    judge::program_limit(count, planned.plan.work_area())?;
     let points = tape.points();
-    Ok(Campaign { plan, points })
+    Ok(Campaign { planned, points })
 }
 
+/// Nothing tells of idle boards.
 fn print_campaign(campaign: &Campaign, output: &mut impl Write) -> io::Result<()> {
-    let plan = &campaign.plan;
+    let plan = &campaign.planned.plan;
     print_plan(plan, output)?;
     let choices = choice::in_finishing_order(&plan.order);
     for &choice in &choices {

@@ -9,7 +9,7 @@ const LINES: [&str; 15] = [
     "the length of an axis is 0 or over 65,535",
     "the product of the lengths is over 16,777,216",
     "p is over 10",
-    "the axes cannot be divided for so many boards: p is over the sum of floor(log2 length)",
+    "the axes cannot be divided for so many boards; no longer given, since some may stand idle",
     "the order does not name each axis once, or a slot past the last axis is not zero",
     "an axis has more portions than positions, or the exponents do not sum to p",
     "the number of points is not the product of the lengths",

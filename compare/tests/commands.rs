@@ -32,11 +32,13 @@ fn bad_arguments_get_the_usage() {
 #[test]
 fn plan_prints_the_papers_cases() {
     let printed = |words: &[&str]| text(&compare(words).stdout);
-    let p1 = "order 0\nexponents 2\nmoved 3\nadded 5\nA 1\nT 5\n";
+    let p1 = "order 0\nexponents 2\nmoved 3\nadded 5\nA 1\nT 5\nidle 0\n";
     assert_eq!(printed(&["plan", "2", "5"]), p1);
-    let p2 = "order 1 0\nexponents 1 0\nmoved 2\nadded 14\nA 4\nT 6\n";
+    let p2 = "order 1 0\nexponents 1 0\nmoved 2\nadded 14\nA 4\nT 6\nidle 0\n";
     assert_eq!(printed(&["plan", "1", "2", "3"]), p2);
-    assert_eq!(printed(&["plan", "3", "3", "2"]), "refused 7\n");
+    let p4 = "order 0 1\nexponents 1 1\nmoved 6\nadded 14\nA 3\nT 10\nidle 4\n";
+    assert_eq!(printed(&["plan", "3", "3", "2"]), p4);
+    assert_eq!(printed(&["plan", "11", "3", "2"]), "refused 6\n");
     assert_eq!(printed(&["plan", "0", "65536"]), "refused 4\n");
 }
 

@@ -265,7 +265,8 @@ fn a_refusal_to_come_is_told() {
         (4, "lengths 2 0\np 0", "(2 axes, 0 points, "),
         (5, "lengths 4096 4097\np 0", "the product of the lengths is over 16,777,216"),
         (6, "lengths 4096\np 11\n1*4096", "p is over 10"),
-        (7, "lengths 3 2\np 3\n1*6", "(2 axes, 6 points, "),
+        (6, "lengths 3 2\np 11\n1*6", "p is over 10"),
+        (10, "lengths 3 2\np 3\n1*5", "(2 axes, 5 points, "),
         (10, "lengths 2 3\np 1\n1 2 3 4 5", "(2 axes, 5 points, "),
         (11, eight_thousand.as_str(), "8,192 each in the program"),
         (15, "lengths 2\np 1\n1 21474838m", "outside -2,147,483,647 to 2,147,483,647 centimetres"),
@@ -281,6 +282,8 @@ fn a_refusal_to_come_is_told() {
         let printed = compare_on(&["totals"], &answer.output).output;
         assert_eq!(text(&printed), format!("refused {number}\n"));
     }
+    let idle = compare_on(&["tape"], b"lengths 3 2\np 6\n1*6");
+    assert!(idle.errors.is_empty() && idle.status.success());
 }
 
 /// Points written one way or another, in lines of any length.

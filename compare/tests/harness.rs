@@ -226,7 +226,7 @@ fn pieces_are_read_one_by_one() {
 
 /// Each way that a campaign can come out, once.
 fn every_outcome() -> Vec<Outcome> {
-    let refused = [1, 2, 14, 15, 3, 4, 5, 6, 7, 10, 11].map(Outcome::Refused);
+    let refused = [1, 2, 14, 15, 3, 4, 5, 6, 10, 11].map(Outcome::Refused);
     let axes = (1..=8).map(|axes| Outcome::Accepted { axes, p: 0 });
     let p = (1..=10).map(|p| Outcome::Accepted { axes: 1, p });
     refused.into_iter().chain(axes).chain(p).collect()
@@ -238,8 +238,8 @@ fn an_outcome_that_does_not_come_up_fails() {
         coverage::cases(outcomes).iter().filter(|case| case.fault.is_some()).count()
     };
     let every = every_outcome();
-    assert_eq!((coverage::cases(&every).len(), failed(&every)), (30, 0));
-    assert_eq!(failed(&[]), 30);
+    assert_eq!((coverage::cases(&every).len(), failed(&every)), (29, 0));
+    assert_eq!(failed(&[]), 29);
     for left_out in 0..every.len() {
         let mut others = every.clone();
         let outcome = others.remove(left_out);

@@ -1,7 +1,7 @@
 //! The paper's cases P1 to P10 and its worked example.
 
 use compare::judge::Refusal;
-use compare::plan::{planned, Plan};
+use compare::plan::{planned, planning, Plan};
 use compare::price;
 use compare::totals::{direct_sums, printed};
 
@@ -52,11 +52,13 @@ fn p3_the_first_axis_twice() {
 }
 
 #[test]
-fn p4_both_axes_and_too_many_boards() {
+fn p4_both_axes_and_four_boards_idle() {
     let plan = planned(&[3, 2], 2).unwrap();
     assert_eq!(in_plan_order(&plan), [1, 1]);
     assert_eq!(price::moved(&plan), 6);
-    assert_eq!(planned(&[3, 2], 3), Err(Refusal(7)));
+    let larger = planning(&[3, 2], 3).unwrap();
+    assert_eq!(in_plan_order(&larger.plan), [1, 1]);
+    assert_eq!((larger.plan, larger.idle), (plan, 4));
 }
 
 #[test]

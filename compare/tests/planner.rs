@@ -6,7 +6,7 @@ use std::cmp::Reverse;
 
 use common::{highest_p, lawful_plans, shapes};
 use compare::judge::{self, Refusal};
-use compare::plan::{planned, Plan};
+use compare::plan::{planned, planning, Plan, Planned};
 use compare::{price, search};
 
 fn small_shapes() -> Vec<Vec<u64>> {
@@ -19,20 +19,62 @@ fn no_way_with_any_division_is_cheaper() {
     for lengths in small_shapes() {
         for p in 0..=highest_p(&lengths) {
             let plan = planned(&lengths, p).unwrap();
-            let least = search::least(&lengths, p).unwrap();
+            let least = search::least(&lengths, p);
             assert_eq!(price::moved(&plan), least.moved, "moved: {lengths:?} p {p}");
             assert_eq!(price::added(&plan), least.added, "added: {lengths:?} p {p}");
         }
     }
 }
 
+/// Over divisions of the boards in use, on racks of every size.
 #[test]
-fn a_plan_exists_exactly_when_a_division_does() {
+fn no_way_with_boards_idle_is_cheaper() {
+    for lengths in [shapes(1, 6), shapes(2, 6), shapes(3, 6)].concat() {
+        for p in 0..=10 {
+            let plan = planned(&lengths, p).unwrap();
+            let least = search::least(&lengths, p);
+            let prices = (price::moved(&plan), price::added(&plan));
+            assert_eq!(prices, (least.moved, least.added), "{lengths:?} p {p}");
+        }
+    }
+}
+
+/// The p used is the highest that has a division, by trying and by halving each axis.
+#[test]
+fn as_many_boards_are_used_as_can_be() {
     for lengths in small_shapes() {
         for p in 0..=10 {
-            let divided = !search::divisions(&lengths, p).is_empty();
-            let expected = if divided { None } else { Some(Refusal(7)) };
-            assert_eq!(planned(&lengths, p).err(), expected, "{lengths:?} p {p}");
+            let Planned { plan, idle } = planning(&lengths, p).unwrap();
+            assert_eq!(plan.p, search::in_use(&lengths, p), "{lengths:?} p {p}");
+            assert_eq!(plan.p, p.min(highest_p(&lengths)), "{lengths:?} p {p}");
+            assert_eq!(plan.boards() + idle, 1 << p, "{lengths:?} p {p}");
+        }
+    }
+}
+
+#[test]
+fn idle_boards_by_hand() {
+    let idle = |lengths: &[u64], p| planning(lengths, p).unwrap().idle;
+    assert_eq!(idle(&[2], 6), 62);
+    assert_eq!(idle(&[1], 10), 1023);
+    assert_eq!(idle(&[3, 2], 3), 4);
+    assert_eq!([0, 1, 2, 3].map(|p| idle(&[3], p)), [0, 0, 2, 6]);
+    assert_eq!([idle(&[1023], 9), idle(&[1023], 10), idle(&[1024], 10)], [0, 512, 0]);
+    assert_eq!([idle(&[1; 8], 0), idle(&[1; 8], 10)], [0, 1023]);
+}
+
+/// Up to the halvings every board is used; a larger rack gets the plan of the largest such one.
+#[test]
+fn larger_racks_get_a_plan_that_was_given() {
+    for lengths in small_shapes() {
+        let highest = highest_p(&lengths).min(10);
+        for p in 0..=highest {
+            let Planned { plan, idle } = planning(&lengths, p).unwrap();
+            assert_eq!((plan.p, idle), (p, 0), "{lengths:?} p {p}");
+        }
+        let largest = planned(&lengths, highest).unwrap();
+        for p in highest..=10 {
+            assert_eq!(planned(&lengths, p).unwrap(), largest, "{lengths:?} p {p}");
         }
     }
 }
@@ -74,7 +116,7 @@ fn cheapest_parents_make_the_cheapest_way() {
             let pairs = ways.iter().flat_map(moved);
             let moved = pairs.map(|(exponents, way)| search::moved(&lengths, exponents, way)).min();
             let added = ways.iter().map(|way| search::added(&lengths, way)).min();
-            let least = search::least(&lengths, p).unwrap();
+            let least = search::least(&lengths, p);
             assert_eq!((moved, added), (Some(least.moved), Some(least.added)), "{lengths:?} p {p}");
         }
     }
@@ -116,7 +158,7 @@ fn large_shapes_price_alike() {
     for lengths in shapes {
         for p in 0..=10 {
             let plan = planned(lengths, p).unwrap();
-            let least = search::least(lengths, p).unwrap();
+            let least = search::least(lengths, p);
             assert_eq!(price::moved(&plan), price::moved_by_weights(&plan));
             assert_eq!((price::moved(&plan), price::added(&plan)), (least.moved, least.added));
         }

@@ -252,14 +252,51 @@ fn refusal_6_p() {
     accepted(&whole(&[4096], 10, &points(4096)));
 }
 
+/// The same is printed as for the boards in use: the p is theirs, and nothing tells of the others.
 #[test]
-fn refusal_7_no_division() {
-    refused(&whole(&[3, 2], 3, &points(6)), 7);
-    refused(&whole(&[1], 1, &points(1)), 7);
-    refused(&whole(&[1023], 10, &points(1023)), 7);
-    accepted(&whole(&[1024], 10, &points(1024)));
-    refused(&whole(&[7, 7], 5, &points(49)), 7);
-    accepted(&whole(&[7, 7], 4, &points(49)));
+fn a_rack_larger_than_the_campaign() {
+    let same = |lengths: &[u16], used: u8, count: u64| {
+        let fitting = output(&whole(lengths, used, &points(count)));
+        assert!(fitting.starts_with(&format!("plan {} {used} ", lengths.len())));
+        for p in used..=10 {
+            assert_eq!(output(&whole(lengths, p, &points(count))), fitting, "{lengths:?} p {p}");
+        }
+    };
+    same(&[3, 2], 2, 6);
+    same(&[1], 0, 1);
+    same(&[1; 8], 0, 1);
+    same(&[1023], 9, 1023);
+    same(&[1024], 10, 1024);
+    same(&[7, 7], 4, 49);
+}
+
+/// Past the halvings as well as within them.
+#[test]
+fn refusal_6_is_by_the_p_asked_for() {
+    for p in 11..=255 {
+        refused(&whole(&[1], p, &points(1)), 6);
+        refused(&whole(&[3, 2], p, &points(6)), 6);
+    }
+}
+
+#[test]
+fn refusal_10_with_boards_idle() {
+    for p in 3..=10 {
+        refused(&whole(&[3, 2], p, &[]), 10);
+        refused(&whole(&[3, 2], p, &points(5)), 10);
+        refused(&whole(&[3, 2], p, &points(7)), 10);
+        refused(&whole(&[3, 2], p, &points(9000)), 10);
+    }
+}
+
+/// The work area is that of the boards in use: 256 of 32 cells and of 48, 8 of 12.
+#[test]
+fn refusal_11_is_by_the_boards_in_use() {
+    for p in 8..=10 {
+        accepted(&whole(&[7; 4], p, &points(2401)));
+        refused(&whole(&[7, 7, 7, 7, 1], p, &points(2401)), 11);
+    }
+    accepted(&whole(&[3; 3], 10, &points(27)));
 }
 
 #[test]
@@ -293,7 +330,7 @@ fn the_first_of_several_is_given() {
     refused(&whole(&[65_535, 65_535, 0], 11, &points(9000)), 4);
     refused(&whole(&[65_535, 65_535], 11, &points(9000)), 5);
     refused(&whole(&[2], 11, &points(9000)), 6);
-    refused(&whole(&[2], 2, &points(9000)), 7);
+    refused(&whole(&[2], 2, &points(9000)), 10);
     refused(&whole(&[2], 1, &points(9000)), 10);
     refused(&whole(&[9000], 1, &points(9000)), 11);
 }

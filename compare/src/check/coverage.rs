@@ -2,7 +2,8 @@
 
 use super::Case;
 use crate::judge::{Refusal, HIGHEST_P, MOST_AXES};
-use crate::totals;
+use crate::plan::Planned;
+use crate::totals::{self, Campaign};
 
 #[derive(Clone, Copy, Debug, PartialEq, Eq)]
 pub enum Outcome {
@@ -11,12 +12,14 @@ pub enum Outcome {
 }
 
 /// The refusals that the program can give, in the checking order.
-const REFUSALS: [u8; 11] = [1, 2, 14, 15, 3, 4, 5, 6, 7, 10, 11];
+const REFUSALS: [u8; 10] = [1, 2, 14, 15, 3, 4, 5, 6, 10, 11];
 
 impl Outcome {
     pub fn of(tape: &[u8]) -> Outcome {
         match totals::accepted(tape) {
-            Ok(campaign) => Outcome::Accepted { axes: campaign.plan.axes(), p: campaign.plan.p },
+            Ok(Campaign { planned: Planned { plan, .. }, .. }) => {
+                Outcome::Accepted { axes: plan.axes(), p: plan.p }
+            }
             Err(Refusal(number)) => Outcome::Refused(number),
         }
     }

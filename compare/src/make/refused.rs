@@ -2,7 +2,7 @@
 
 use super::shapes;
 use super::{campaign, Kind, Maker::Refused, Tape};
-use crate::judge::{HIGHEST_P, MOST_POINTS};
+use crate::judge::MOST_POINTS;
 use crate::random::Random;
 use crate::shape::Shape;
 use crate::spell;
@@ -21,9 +21,6 @@ pub const KINDS: &[Kind] = &[
     ("p too high", Refused(6, high_p)),
     ("p too high", Refused(6, high_p)),
     ("p too high, halvings enough", Refused(6, high_p_for_long_axes)),
-    ("more boards than portions", Refused(7, too_many_boards)),
-    ("more boards than portions", Refused(7, too_many_boards)),
-    ("one board too many", Refused(7, one_halving_too_many)),
     ("no points", Refused(10, |random| other_count(random, |_, _| 0))),
     ("one point missing", Refused(10, |random| other_count(random, |_, count| count - 1))),
     ("one point too many", Refused(10, |random| other_count(random, |_, count| count + 1))),
@@ -117,33 +114,6 @@ fn high_p(random: &mut Random) -> Tape {
 fn high_p_for_long_axes(random: &mut Random) -> Tape {
     let lengths = [random.between(2_048, 8_192) as u16];
     campaign::tape(random, &Shape::new(&lengths, 11))
-}
-
-fn few_halvings(random: &mut Random) -> Shape {
-    loop {
-        let shape = shapes::any(random);
-        if shape.halvings() < HIGHEST_P {
-            return shape;
-        }
-    }
-}
-
-fn too_many_boards(random: &mut Random) -> Tape {
-    let mut shape = few_halvings(random);
-    shape.p = random.between(u64::from(shape.halvings()) + 1, u64::from(HIGHEST_P)) as u8;
-    campaign::tape(random, &shape)
-}
-
-/// Lengths one short of a power of two: rounding up would find a division.
-fn one_halving_too_many(random: &mut Random) -> Tape {
-    loop {
-        let axes = random.between(1, 4);
-        let lengths: Vec<u16> = (0..axes).map(|_| (2 << random.below(4)) - 1).collect();
-        let p = Shape::new(&lengths, 0).halvings() as u8 + 1;
-        if u32::from(p) <= HIGHEST_P {
-            return campaign::tape(random, &Shape { lengths, p });
-        }
-    }
 }
 
 fn other_count(random: &mut Random, count: fn(&mut Random, u64) -> u64) -> Tape {

@@ -23,7 +23,7 @@ pub const KINDS: &[Kind] = &[
 ];
 
 /// In the checking order; of 14 and 15 the one that comes first on the tape is due.
-const FLAWS: [u8; 11] = [1, 2, 14, 15, 3, 4, 5, 6, 7, 10, 11];
+const FLAWS: [u8; 10] = [1, 2, 14, 15, 3, 4, 5, 6, 10, 11];
 
 fn some(random: &mut Random) -> (Tape, u8) {
     let mut flaws = FLAWS.to_vec();
@@ -46,7 +46,8 @@ fn with_reading(random: &mut Random, others: &[u8]) -> (Tape, u8) {
 fn with(random: &mut Random, flaws: &[u8]) -> (Tape, u8) {
     let has = |flaw: u8| flaws.contains(&flaw);
     let lengths = lengths(random, &has);
-    let p = p(random, &lengths, &has);
+    // No p up to 10 is a flaw, whatever the lengths are.
+    let p = if has(6) { random.between(11, 255) } else { random.between(0, 10) } as u8;
     let shape = Shape { lengths, p };
     let count = count(random, &shape, &has);
     let mut commands = campaign::commands(random, &shape, count);
@@ -68,7 +69,7 @@ fn lengths(random: &mut Random, has: Has) -> Vec<u16> {
     let mut lengths = vec![random.between(1, 9) as u16; random.between(1, 2) as usize];
     if has(5) {
         lengths.extend([65_535, 65_535]);
-    } else if has(11) && !has(7) && !has(10) {
+    } else if has(11) && !has(10) {
         lengths = vec![random.between(8_193, 65_535) as u16];
     }
     if has(4) {
@@ -79,17 +80,6 @@ fn lengths(random: &mut Random, has: Has) -> Vec<u16> {
     }
     random.shuffle(&mut lengths);
     lengths
-}
-
-fn p(random: &mut Random, lengths: &[u16], has: Has) -> u8 {
-    if has(6) {
-        return random.between(11, 255) as u8;
-    }
-    let halvings = lengths.iter().map(|&length| length.checked_ilog2().unwrap_or(0)).sum::<u32>();
-    if has(7) && halvings < 10 {
-        return random.between(u64::from(halvings) + 1, 10) as u8;
-    }
-    0
 }
 
 fn count(random: &mut Random, shape: &Shape, has: Has) -> u64 {

@@ -67,7 +67,7 @@ pub fn divided(random: &mut Random, axes: usize, p: u8) -> Shape {
     }
 }
 
-/// At least 64 boards over two axes or more.
+/// At least 64 boards in use over two axes or more.
 pub fn many_boards(random: &mut Random) -> Shape {
     loop {
         let (axes, longest) =
@@ -75,7 +75,7 @@ pub fn many_boards(random: &mut Random) -> Shape {
         let lengths = short_lengths(random, axes, longest);
         let p = random.between(6, 10) as u8;
         let shape = Shape { lengths, p };
-        if shape.is_taken() {
+        if shape.halvings() >= 6 && shape.is_taken() {
             return shape;
         }
     }
@@ -94,7 +94,7 @@ pub fn tied(random: &mut Random, shorter_by: u64) -> Shape {
         random.shuffle(&mut lengths);
         let p = halvings + 1 + 2 * random.below(3);
         let shape = Shape { lengths, p: p as u8 };
-        if shape.is_taken() {
+        if shape.uses_every_board() && shape.is_taken() {
             return shape;
         }
     }
