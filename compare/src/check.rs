@@ -8,6 +8,7 @@ mod patience;
 mod shut;
 mod tapes;
 
+use self::coverage::Counted;
 use self::patience::Patience;
 
 /// One thing that was tried, and what was wrong with it.
@@ -25,8 +26,8 @@ const FAULTS_SHOWN: usize = 5;
 pub fn run(program: &str, seed: u64, count: u64) -> bool {
     let patience = Patience::default();
     let (tapes, outcomes) = tapes::compare_all(program, &patience, seed, count);
-    for (outcome, number) in coverage::counts(&outcomes) {
-        println!("{outcome:<20}{number:>8}");
+    for Counted { name, number, .. } in coverage::counts(&outcomes) {
+        println!("{name:<20}{number:>8}");
     }
     let covered = if count >= MANY { coverage::cases(&outcomes) } else { Vec::new() };
     let shut = shut::cases(program, &patience);

@@ -48,6 +48,13 @@ pub struct Planned {
     pub idle: u64,
 }
 
+impl Planned {
+    /// The work area that a share for every board asked for would need, also for idle ones.
+    pub fn area_asked_for(&self) -> u64 {
+        (self.plan.boards() + self.idle) * self.plan.share()
+    }
+}
+
 /// The planner: longest axis first, then the cheapest next halving, p times or until no axis has
 /// one left.
 pub fn planning(lengths: &[u64], p: u32) -> Result<Planned, Refusal> {

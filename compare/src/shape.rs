@@ -1,7 +1,7 @@
 //! Lengths and p as a tape gives them.
 
-use crate::judge;
-use crate::plan::planned;
+use crate::judge::{self, Refusal};
+use crate::plan::{planning, Planned};
 
 #[derive(Clone, Debug)]
 pub struct Shape {
@@ -24,8 +24,14 @@ impl Shape {
 
     /// Whether a plan is given and the program's limit is kept.
     pub fn is_taken(&self) -> bool {
-        let plan = planned(&self.wide(), u32::from(self.p));
-        plan.is_ok_and(|plan| judge::program_limit(self.points(), plan.work_area()).is_ok())
+        let taken = |Planned { plan, .. }: Planned| {
+            judge::program_limit(self.points(), plan.work_area()).is_ok()
+        };
+        self.planning().is_ok_and(taken)
+    }
+
+    pub fn planning(&self) -> Result<Planned, Refusal> {
+        planning(&self.wide(), u32::from(self.p))
     }
 
     /// The sum of floor(log2 length).

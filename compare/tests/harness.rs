@@ -7,7 +7,7 @@ use std::process::Command;
 use std::time::{Duration, Instant};
 
 use common::process::{compare, last_line, script, text, PROGRAM};
-use compare::check::coverage::{self, Outcome};
+use compare::check::coverage::{self, Idle, Outcome};
 use compare::pieces::Pieces;
 use compare::program;
 use compare::random::Random;
@@ -227,9 +227,10 @@ fn pieces_are_read_one_by_one() {
 /// Each way that a campaign can come out, once.
 fn every_outcome() -> Vec<Outcome> {
     let refused = [1, 2, 14, 15, 3, 4, 5, 6, 10, 11].map(Outcome::Refused);
-    let axes = (1..=8).map(|axes| Outcome::Accepted { axes, p: 0 });
-    let p = (1..=10).map(|p| Outcome::Accepted { axes: 1, p });
-    refused.into_iter().chain(axes).chain(p).collect()
+    let axes = (1..=8).map(|axes| Outcome::Accepted { axes, p: 0, idle: Idle::Some });
+    let p = (1..=10).map(|p| Outcome::Accepted { axes: 1, p, idle: Idle::None });
+    let past = Outcome::Accepted { axes: 1, p: 0, idle: Idle::PastLimit };
+    refused.into_iter().chain(axes).chain(p).chain([past]).collect()
 }
 
 #[test]
@@ -238,13 +239,28 @@ fn an_outcome_that_does_not_come_up_fails() {
         coverage::cases(outcomes).iter().filter(|case| case.fault.is_some()).count()
     };
     let every = every_outcome();
-    assert_eq!((coverage::cases(&every).len(), failed(&every)), (29, 0));
-    assert_eq!(failed(&[]), 29);
+    assert_eq!((coverage::cases(&every).len(), failed(&every)), (31, 0));
+    assert_eq!(failed(&[]), 31);
     for left_out in 0..every.len() {
         let mut others = every.clone();
         let outcome = others.remove(left_out);
-        // Eight of them have p 0, and eleven have one axis.
-        let elsewhere = outcome == Outcome::Accepted { axes: 1, p: 0 };
+        // Nine of them have p 0, and twelve have one axis.
+        let elsewhere = outcome == Outcome::Accepted { axes: 1, p: 0, idle: Idle::Some };
         assert_eq!(failed(&others), usize::from(!elsewhere), "{outcome:?}");
     }
+}
+
+/// A quarter of the accepted tapes must ask for more boards than are used.
+#[test]
+fn too_few_idle_boards_fail() {
+    let with = |idle, number| vec![Outcome::Accepted { axes: 1, p: 0, idle }; number];
+    let fails = |outcomes: &[Outcome]| {
+        let cases = coverage::cases(outcomes);
+        cases.iter().find(|case| case.name == "accepted, idle").unwrap().fault.is_some()
+    };
+    assert!(fails(&[with(Idle::None, 31), with(Idle::Some, 9)].concat()));
+    assert!(!fails(
+        &[with(Idle::None, 30), with(Idle::Some, 9), with(Idle::PastLimit, 1)].concat()
+    ));
+    assert!(fails(&with(Idle::None, 1)) && !fails(&with(Idle::PastLimit, 1)));
 }

@@ -1,11 +1,14 @@
 //! Made tapes: what their maker says is due, against the engine.
 
+mod common;
+
 use std::collections::{BTreeMap, BTreeSet};
 
-use compare::check::coverage::{self, Outcome};
+use common::highest_p;
+use compare::check::coverage::{self, Counted, Outcome};
 use compare::make::{kind_count, made, Due, Made};
 use compare::random::Random;
-use compare::tape::LONGEST_TAPE;
+use compare::tape::{self, LONGEST_TAPE};
 use compare::totals::{accepted, printed};
 
 const COUNT: u64 = 3000;
@@ -48,9 +51,36 @@ fn every_outcome_and_shape_is_made() {
     for seed in [14, 15] {
         let outcomes: Vec<Outcome> =
             (0..5000).map(|index| Outcome::of(&made(seed, index).tape)).collect();
-        for (outcome, count) in coverage::counts(&outcomes) {
-            assert!(count >= 25, "seed {seed}, {outcome}: {count}");
+        for Counted { name, number, least } in coverage::counts(&outcomes) {
+            assert!(number >= least.max(25), "seed {seed}, {name}: {number}");
         }
+    }
+}
+
+/// Of the made tapes that come out so: all of them, and those that ask for more boards than the
+/// axes can be divided for.
+fn larger_racks(seed: u64, due: Option<u8>) -> (u64, u64) {
+    let (mut all, mut larger) = (0, 0);
+    for index in 0..COUNT {
+        let tape = made(seed, index).tape;
+        if outcome(&tape) == due {
+            let asked = tape::read(&tape).unwrap();
+            all += 1;
+            larger += u64::from(asked.p > highest_p(&asked.lengths));
+        }
+    }
+    (all, larger)
+}
+
+/// Refused or not, and for every later reason.
+#[test]
+fn racks_larger_than_the_campaign_are_made() {
+    let (accepted, idle) = larger_racks(20, None);
+    let share = idle as f64 / accepted as f64;
+    assert!((0.28..0.4).contains(&share), "{idle} of {accepted}");
+    for (number, least) in [(6, 40), (10, 60), (11, 45)] {
+        let (refused, larger) = larger_racks(20, Some(number));
+        assert!(larger >= least && larger < refused, "{number}: {larger} of {refused}");
     }
 }
 

@@ -27,6 +27,11 @@ pub const KINDS: &[Kind] = &[
     ("one long axis", Accepted(one_long_axis)),
     ("one long axis among ones", Accepted(one_long_axis_among_ones)),
     ("axes of length 1", Accepted(ones)),
+    ("more boards than portions", Accepted(idle)),
+    ("more boards than portions", Accepted(idle)),
+    ("one halving too many", Accepted(one_halving_too_many)),
+    ("idle boards past the limit", Accepted(idle_past_the_limit)),
+    ("idle boards past the limit", Accepted(idle_past_the_limit)),
     ("powers of two, every halving", Accepted(every_halving)),
     ("weights that tie", Accepted(tied)),
     ("weights that tie", Accepted(tied)),
@@ -78,9 +83,25 @@ fn one_long_axis_among_ones(random: &mut Random) -> Tape {
     }
 }
 
+/// Whatever is asked for, one board is used.
 fn ones(random: &mut Random) -> Tape {
-    let axes = random.between(1, 8) as usize;
-    campaign::tape(random, &Shape::new(&vec![1; axes], 0))
+    let (axes, p) = (random.between(1, 8) as usize, random.between(0, 10) as u8);
+    campaign::tape(random, &Shape::new(&vec![1; axes], p))
+}
+
+fn idle(random: &mut Random) -> Tape {
+    let shape = shapes::idle(random);
+    campaign::tape(random, &shape)
+}
+
+fn one_halving_too_many(random: &mut Random) -> Tape {
+    let shape = shapes::one_halving_too_many(random);
+    campaign::tape(random, &shape)
+}
+
+fn idle_past_the_limit(random: &mut Random) -> Tape {
+    let shape = shapes::idle_past_the_limit(random);
+    campaign::tape(random, &shape)
 }
 
 fn every_halving(random: &mut Random) -> Tape {

@@ -28,10 +28,13 @@ pub const KINDS: &[Kind] = &[
     ("points past 16 bits", Refused(10, |random| other_count(random, past_16_bits))),
     ("600 million points", Refused(10, most_points_on_a_tape)),
     ("any other number of points", Refused(10, |random| other_count(random, any_other))),
+    ("any other number of points, boards idle", Refused(10, other_count_with_idle)),
     ("just past the limit", Refused(11, just_past)),
     ("past a limit by one", Refused(11, past_the_limit)),
     ("work area too large", Refused(11, wide_work_area)),
     ("work area too large", Refused(11, wide_work_area)),
+    ("work area too large, boards idle", Refused(11, wide_with_idle)),
+    ("work area too large, boards idle", Refused(11, wide_with_idle)),
     ("many points", Refused(11, many_points)),
     ("as many points as may be", Refused(11, most_points)),
 ];
@@ -122,6 +125,12 @@ fn other_count(random: &mut Random, count: fn(&mut Random, u64) -> u64) -> Tape 
     campaign::with_count(random, &shape, count)
 }
 
+fn other_count_with_idle(random: &mut Random) -> Tape {
+    let shape = shapes::idle(random);
+    let count = any_other(random, shape.points());
+    campaign::with_count(random, &shape, count)
+}
+
 fn past_16_bits(random: &mut Random, count: u64) -> u64 {
     count + (random.between(1, 300) << 16)
 }
@@ -149,6 +158,11 @@ fn past_the_limit(random: &mut Random) -> Tape {
 
 fn wide_work_area(random: &mut Random) -> Tape {
     let shape = shapes::wide_work_area(random);
+    campaign::tape(random, &shape)
+}
+
+fn wide_with_idle(random: &mut Random) -> Tape {
+    let shape = shapes::wide_with_idle(random);
     campaign::tape(random, &shape)
 }
 

@@ -23,9 +23,12 @@ pub fn short_lengths(random: &mut Random, axes: u64, longest: u64) -> Vec<u16> {
     (0..axes).map(|_| random.between(1, longest) as u16).collect()
 }
 
+/// Within the halvings of the lengths or, one time in three, past them.
 fn any_p(random: &mut Random, lengths: &[u16]) -> u8 {
-    let highest = Shape::new(lengths, 0).halvings().min(HIGHEST_P);
-    random.between(0, u64::from(highest)) as u8
+    let fitting = Shape::new(lengths, 0).halvings().min(HIGHEST_P);
+    let past = fitting < HIGHEST_P && random.one_in(3);
+    let (least, most) = if past { (fitting + 1, HIGHEST_P) } else { (0, fitting) };
+    random.between(least.into(), most.into()) as u8
 }
 
 pub fn any(random: &mut Random) -> Shape {
@@ -41,6 +44,40 @@ pub fn of_axes(random: &mut Random, axes: u64) -> Shape {
         let lengths =
             if short { short_lengths(random, axes, 5) } else { lengths(random, axes, most) };
         let p = any_p(random, &lengths);
+        let shape = Shape { lengths, p };
+        if shape.is_taken() {
+            return shape;
+        }
+    }
+}
+
+/// More boards than the axes can be divided for.
+pub fn idle(random: &mut Random) -> Shape {
+    loop {
+        let shape = any(random);
+        if !shape.uses_every_board() {
+            return shape;
+        }
+    }
+}
+
+/// Only the idle boards' shares would not fit.
+pub fn idle_past_the_limit(random: &mut Random) -> Shape {
+    loop {
+        let shape = idle(random);
+        let planned = shape.planning().expect("a shape that is taken has a plan");
+        if planned.area_asked_for() > PROGRAM_LIMIT {
+            return shape;
+        }
+    }
+}
+
+/// Lengths one short of a power of two: rounding up would find a division for one board more.
+pub fn one_halving_too_many(random: &mut Random) -> Shape {
+    loop {
+        let axes = random.between(1, 5);
+        let lengths: Vec<u16> = (0..axes).map(|_| (2 << random.below(4)) - 1).collect();
+        let p = Shape::new(&lengths, 0).halvings() as u8 + 1;
         let shape = Shape { lengths, p };
         if shape.is_taken() {
             return shape;
@@ -149,6 +186,19 @@ pub fn wide_work_area(random: &mut Random) -> Shape {
     }
 }
 
+/// The same where boards stand idle: those in use are too many already.
+pub fn wide_with_idle(random: &mut Random) -> Shape {
+    loop {
+        let axes = random.between(4, 8);
+        let lengths = short_lengths(random, axes, 7);
+        let p = any_p(random, &lengths);
+        let shape = Shape { lengths, p };
+        if shape.points() <= PROGRAM_LIMIT && !shape.uses_every_board() && !shape.is_taken() {
+            return shape;
+        }
+    }
+}
+
 /// Shapes that meet a limit of the program exactly.
 pub fn at_the_limit(random: &mut Random) -> Shape {
     let any_p = random.between(0, 10) as u8;
@@ -165,6 +215,7 @@ pub fn at_the_limit(random: &mut Random) -> Shape {
         Shape::new(&[4, 8, 4, 8, 4], 5),
         Shape::new(&[4096, 2], 0),
         Shape::new(&[64, 128], 6),
+        Shape::new(&[7, 7, 7, 7], any_p.max(8)),
     ];
     random.pick(&shapes)
 }
@@ -179,6 +230,7 @@ pub fn past_the_limit(random: &mut Random) -> Shape {
         Shape::new(&[4096, 4096], any_p),
         Shape::new(&[8, 2, 2, 3, 2, 2, 2, 2], 10),
         Shape::new(&[65535], any_p),
+        Shape::new(&[7, 7, 7, 7, 1], any_p.max(8)),
     ];
     random.pick(&shapes)
 }
