@@ -32,7 +32,8 @@ pub record Limit : Type 0 where
 ";
 
 pub fn module() -> String {
-    let (cases, limits) = (cases(), [limits(), refused_for_a_reading()].concat());
+    let (cases, limits) =
+        (cases(), [limits(), limits_with_idle(), refused_for_a_reading()].concat());
     let mut text = OPENING.to_string();
     cases.iter().for_each(|case| text.push_str(&declared(case)));
     text += &all("cases", "Case", cases.iter().map(|case| case.name));
@@ -230,9 +231,13 @@ fn refused_for_the_first_of_several() -> Vec<Case> {
     ]
 }
 
+/// A tape of the right form, all its points by one 52.
+fn equal(lengths: &[u16], p: u8, count: u16) -> Vec<u8> {
+    spell::tape(lengths, p, vec![repeated(count, 1)])
+}
+
 fn limits() -> Vec<Case> {
     let case = |name, says, tape| Case { name, says, tape };
-    let equal = |lengths: &[u16], p, count| spell::tape(lengths, p, vec![repeated(count, 1)]);
     vec![
         case("most-points", "taken: 8192 points", equal(&[8192], 0, 8192)),
         case(
@@ -262,6 +267,23 @@ fn limits() -> Vec<Case> {
         ),
         case("longest-tape", "refused 2: 65536 bytes, and no command", vec![0; LONGEST_TAPE]),
         case("one-byte-more", "refused 1: 65537 bytes, and no command", vec![0; LONGEST_TAPE + 1]),
+    ]
+}
+
+/// The boards in use are judged, and not those asked for.
+fn limits_with_idle() -> Vec<Case> {
+    let case = |name, says, tape| Case { name, says, tape };
+    vec![
+        case(
+            "most-shares-in-use",
+            "taken: 256 boards of 32 cells each, and 768 idle",
+            equal(&[7, 7, 7, 7], 10, 2401),
+        ),
+        case(
+            "in-use-past-the-limit",
+            "refused 11: 256 boards of 48 cells each, and 256 idle",
+            equal(&[7, 7, 7, 7, 1], 9, 2401),
+        ),
     ]
 }
 

@@ -74,7 +74,7 @@ fn table_says_what_its_comments_say() {
         let number = refusal.unwrap_or("0");
         assert!(line.ends_with(&format!("; refusal = {number} }}")), "{name}");
     }
-    assert!(limits.len() >= 14);
+    assert!(limits.len() >= 16);
     for (list, of) in [("cases", cases), ("limits", limits)] {
         let names: String = of.iter().map(|(name, ..)| format!("{name} ∷ ")).collect();
         assert!(module.contains(&format!("\n{list} = {names}[]\n")));
@@ -89,6 +89,17 @@ fn table_has_readings_of_all_kinds() {
     let cases = declared(&module, "Case");
     let case = cases.iter().find(|case| case.0 == "readings-of-all-kinds").unwrap();
     assert!(case.2.ends_with(due), "{}", case.2);
+}
+
+/// Lengths 3 and 2, points 1 2, 3 4 and 5 6, added up by hand; the p asked for is 3.
+#[test]
+fn table_has_a_rack_larger_than_the_campaign() {
+    let due = r#"; output = text "plan 2 2 6 14 3\ndim 0 3 1\ndim 1 2 1\ngroup 1 3 7 11\ngroup 0 21\ngroup 2 9 12\nend 3\n" }"#;
+    let module = table::module();
+    let cases = declared(&module, "Case");
+    let case = cases.iter().find(|case| case.0 == "boards-idle").unwrap();
+    assert!(case.2.ends_with(due), "{}", case.2);
+    assert!(!module.contains("refused 7"));
 }
 
 /// The cases of a kind: the name, the refusal that the comment says, and what is declared.
