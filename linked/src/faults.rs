@@ -2,9 +2,12 @@
 
 use std::cell::Cell;
 
+use crate::misplan::Misplan;
+
 #[derive(Clone, Copy, Debug, PartialEq)]
 pub enum Entry {
     Plan,
+    Idle,
     Make,
     Price,
     StepCount,
@@ -64,6 +67,7 @@ pub enum Change {
     Before(Part),
     After(Part),
     Miscount(Miscount),
+    Misplan(Misplan),
 }
 
 /// How a scan that is told counts wrongly.
@@ -112,6 +116,14 @@ pub fn told_with(entry: Entry, answer: u8, fits: bool) -> u8 {
     match planted(entry, answer) {
         Some(Change::ResultFirst) if !fits => 13,
         _ => told(entry, answer),
+    }
+}
+
+/// How a call that answers so plans wrongly, if it does.
+pub fn misplan(entry: Entry, answer: u8) -> Option<Misplan> {
+    match planted(entry, answer) {
+        Some(Change::Misplan(misplan)) => Some(misplan),
+        _ => None,
     }
 }
 

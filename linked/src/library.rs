@@ -3,8 +3,10 @@
 
 use std::slice;
 
-use crate::faults::{miscount, spoil, told, told_with, Entry, Part};
+use crate::faults::{miscount, misplan, spoil, told, told_with, Entry, Part};
 use crate::misread::heard;
+use crate::plans::{IDLE, MADE};
+use crate::slots::{SLOTS, SMALL};
 use crate::tapes::SCANNED;
 
 extern "C" {
@@ -15,6 +17,13 @@ extern "C" {
         result: *mut u8,
         result_len: usize,
     ) -> u8;
+    fn campaign_idle(
+        lengths: *const u8,
+        lengths_len: usize,
+        p: u8,
+        idle: *mut u64,
+        idle_len: usize,
+    ) -> u8;
     fn campaign_make(
         lengths: *const u32,
         lengths_len: usize,
@@ -23,8 +32,8 @@ extern "C" {
         plan_len: usize,
         slots: *mut u32,
         slots_len: usize,
-        prices: *mut u64,
-        prices_len: usize,
+        cells: *mut u64,
+        cells_len: usize,
     ) -> u8;
     fn campaign_price(
         plan: *const u8,
@@ -121,10 +130,23 @@ pub fn plan(lengths: &[u8], p: u8, result: &mut [u8]) -> u8 {
         campaign_plan(lengths.as_ptr(), lengths.len(), p, result.as_mut_ptr(), result.len())
     };
     spoil(Entry::Plan, answer, Part::Result, result);
-    told(Entry::Plan, answer)
+    match misplan(Entry::Plan, answer) {
+        Some(misplan) => misplan.plan(p, result),
+        None => told_with(Entry::Plan, answer, result.len() == lengths.len()),
+    }
 }
 
-pub fn make(asked: &[u32], p: u8, small: &mut [u8], lengths: &mut [u32], prices: &mut [u64]) -> u8 {
+pub fn idle(lengths: &[u8], p: u8, idle: &mut [u64]) -> u8 {
+    let answer =
+        unsafe { campaign_idle(lengths.as_ptr(), lengths.len(), p, idle.as_mut_ptr(), idle.len()) };
+    spoil(Entry::Idle, answer, Part::Result, idle);
+    match misplan(Entry::Idle, answer) {
+        Some(misplan) => misplan.idle(p, idle),
+        None => told_with(Entry::Idle, answer, idle.len() == IDLE),
+    }
+}
+
+pub fn make(asked: &[u32], p: u8, small: &mut [u8], lengths: &mut [u32], cells: &mut [u64]) -> u8 {
     let answer = unsafe {
         campaign_make(
             asked.as_ptr(),
@@ -134,14 +156,20 @@ pub fn make(asked: &[u32], p: u8, small: &mut [u8], lengths: &mut [u32], prices:
             small.len(),
             lengths.as_mut_ptr(),
             lengths.len(),
-            prices.as_mut_ptr(),
-            prices.len(),
+            cells.as_mut_ptr(),
+            cells.len(),
         )
     };
     spoil(Entry::Make, answer, Part::Small, small);
     spoil(Entry::Make, answer, Part::Lengths, lengths);
-    spoil(Entry::Make, answer, Part::Result, prices);
-    told(Entry::Make, answer)
+    spoil(Entry::Make, answer, Part::Result, cells);
+    match misplan(Entry::Make, answer) {
+        Some(misplan) => misplan.make(p, small, cells),
+        None => {
+            let fits = (small.len(), lengths.len(), cells.len()) == (SMALL, SLOTS, MADE);
+            told_with(Entry::Make, answer, fits)
+        }
+    }
 }
 
 /// A call over a lent plan: its two slices, as four arguments before the others.

@@ -5,6 +5,7 @@ mod faults;
 mod lawful;
 mod library;
 mod memory;
+mod misplan;
 mod misread;
 mod plans;
 mod readings;

@@ -1,6 +1,7 @@
 //! Faults planted between the library and each comparison: every one must be seen.
 
 use crate::faults::{plant, Change, Entry, Fault, Miscount, Part, When};
+use crate::misplan::Misplan;
 use crate::misread::{self, Misreading};
 use crate::{memory, plans, readings, steps, tapes, Count};
 
@@ -20,8 +21,13 @@ struct Trial {
 const PLAN: &[Part] = &[Part::Small, Part::Lengths];
 const PLAN_AND_WORK: &[Part] = &[Part::Small, Part::Lengths, Part::Work];
 
+/// What compares planning: random requests, refusals, and small shapes with every p.
+const REQUESTED: Loop = (plans::requests, 7, 40);
+const REFUSED: Loop = (plans::refusals, 7, 12);
+const SMALLEST: Loop = (plans::smallest, 7, 2);
+
 const fn planning(entry: Entry, written: &'static [(Part, Option<usize>)]) -> Trial {
-    let (taken, refused): (Loop, Loop) = ((plans::requests, 7, 40), (plans::refusals, 7, 12));
+    let (taken, refused) = (REQUESTED, REFUSED);
     Trial { entry, taken, refused, written, read: &[Part::Asked] }
 }
 
@@ -44,11 +50,12 @@ const fn reading(entry: Entry, written: &'static [(Part, Option<usize>)]) -> Tri
     Trial { entry, taken, refused, written, read: &[Part::Tape] }
 }
 
-const TRIALS: [Trial; 12] = [
+const TRIALS: [Trial; 13] = [
     planning(Entry::Plan, &[(Part::Result, None)]),
+    planning(Entry::Idle, &[(Part::Result, Some(1))]),
     planning(
         Entry::Make,
-        &[(Part::Small, Some(18)), (Part::Lengths, Some(8)), (Part::Result, Some(3))],
+        &[(Part::Small, Some(18)), (Part::Lengths, Some(8)), (Part::Result, Some(4))],
     ),
     listing(Entry::Price, &[(Part::Result, Some(3))]),
     listing(Entry::StepCount, &[(Part::Result, Some(1))]),
@@ -99,11 +106,52 @@ pub fn check() -> Count {
         }
     }
     try_all(&mut count, Entry::Step, When::Taken, (memory::runs, 7, 4), changes_in_runs());
+    misplans(&mut count);
     offences(&mut count);
     slices(&mut count);
     miscounts(&mut count);
     misreadings(&mut count);
     count
+}
+
+/// The entries that plan, each with how it can take a rack larger than the campaign.
+const MISPLANS: [(Entry, &[Misplan]); 3] = [
+    (Entry::Plan, &[Misplan::StillRefused, Misplan::AskedFor]),
+    (
+        Entry::Idle,
+        &[Misplan::StillRefused, Misplan::InUse, Misplan::All, Misplan::None, Misplan::Halvings],
+    ),
+    (
+        Entry::Make,
+        &[
+            Misplan::StillRefused,
+            Misplan::AskedFor,
+            Misplan::InUse,
+            Misplan::All,
+            Misplan::None,
+            Misplan::Halvings,
+        ],
+    ),
+];
+
+/// Besides these, a p over 10 that gets another number or is taken, and a result of the wrong
+/// length that is judged ahead of what is asked for.
+fn misplans(count: &mut Count) {
+    for (entry, misplans) in MISPLANS {
+        let changes: Vec<Change> = misplans.iter().copied().map(Change::Misplan).collect();
+        for compare in [REQUESTED, REFUSED] {
+            try_all(count, entry, When::Taken, compare, changes.clone());
+            let high_p = vec![Change::Answer(1), Change::Answer(10)];
+            try_all(count, entry, When::By(6), compare, high_p);
+        }
+        // Planning with prices takes no part in it.
+        if entry != Entry::Make {
+            try_all(count, entry, When::Taken, SMALLEST, changes);
+        }
+        for number in 3..=6 {
+            try_all(count, entry, When::By(number), REFUSED, vec![Change::ResultFirst]);
+        }
+    }
 }
 
 /// What compares readings: made tapes of every kind, damaged ones, single readings and many.

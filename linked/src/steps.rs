@@ -131,7 +131,7 @@ fn requested(count: &mut Count, random: &mut Random, n: u64) {
     for index in 0..n {
         let (lengths, p) = request(random);
         let plan = match index % 2 {
-            0 => planned(&lengths, fitting(&lengths, p)).expect("p has room"),
+            0 => planned(&lengths, u32::from(p).min(judge::HIGHEST_P)).expect("p is at most 10"),
             _ => lawful(random, &lengths, fitting(&lengths, p)),
         };
         whole(count, random, &plan);

@@ -114,17 +114,24 @@ pub fn plan(lengths: &[u8], p: u8, result: &mut [u8]) -> u8 {
     Ended::new(Entry::Plan, answer).read(asked, lengths).written(out, result).answer()
 }
 
-pub fn make(lengths: &[u32], p: u8, slots: &mut Slots, prices: &mut [u64]) -> u8 {
+pub fn idle(lengths: &[u8], p: u8, idle: &mut [u64]) -> u8 {
+    let mut asked = Copied::new(Part::Asked, lengths);
+    let mut out = Copied::new(Part::Result, idle);
+    let answer = library::idle(asked.cells(), p, out.cells());
+    Ended::new(Entry::Idle, answer).read(asked, lengths).written(out, idle).answer()
+}
+
+pub fn make(lengths: &[u32], p: u8, slots: &mut Slots, cells: &mut [u64]) -> u8 {
     let mut asked = Copied::new(Part::Asked, lengths);
     let mut made = CopiedPlan::new(slots);
-    let mut out = Copied::new(Part::Result, prices);
+    let mut out = Copied::new(Part::Result, cells);
     let answer =
         library::make(asked.cells(), p, made.small.cells(), made.lengths.cells(), out.cells());
     Ended::new(Entry::Make, answer)
         .read(asked, lengths)
         .written(made.small, &mut slots.small)
         .written(made.lengths, &mut slots.lengths)
-        .written(out, prices)
+        .written(out, cells)
         .answer()
 }
 
