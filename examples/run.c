@@ -2,7 +2,7 @@
  * A whole campaign: two fault loops on three line sections, on a rack of two boards. Opens it from
  * its tape, plans it, lends memory, takes every step, gathers each choice when it is finished and
  * prints its totals; shows what another plan costs, what the boards hold, where a board's own cells
- * lie, and refusals that leave everything as it was.
+ * lie, the same campaign on a larger rack, and refusals that leave everything as it was.
  */
 #include <inttypes.h>
 #include <stdio.h>
@@ -44,9 +44,12 @@ static void *lent(size_t n, size_t size)
 static void plan_tape(const struct campaign_tape *scan, struct campaign_rack_plan *plan,
                       struct campaign_prices *prices)
 {
+    uint32_t idle;
+
     if (scan->axes > CAMPAIGN_AXES)
         check("plan", CAMPAIGN_BAD_AXES);
-    check("plan", campaign_plan_make(scan->lengths, scan->axes, scan->p, plan, prices));
+    check("plan", campaign_plan_make(scan->lengths, scan->axes, scan->p, plan, prices, &idle));
+    printf("boards: %" PRIu32 " used, %" PRIu32 " idle\n", campaign_boards(plan), idle);
     if (scan->points != campaign_points(plan))
         check("points", CAMPAIGN_BAD_ARRAY);
 }
@@ -69,6 +72,17 @@ static void print_other(const struct campaign_rack_plan *plan)
     other.exponents[1] = 0;
     check("price", campaign_plan_price(&other, &prices));
     print_prices("another plan", &prices);
+}
+
+/* The same campaign on a rack of 64 boards: its axes can be divided for four. */
+static void print_larger(const struct campaign_tape *scan)
+{
+    struct campaign_rack_plan larger;
+    struct campaign_prices prices;
+    uint32_t idle;
+
+    check("plan", campaign_plan_make(scan->lengths, scan->axes, 6, &larger, &prices, &idle));
+    printf("64 boards: %" PRIu32 " used, %" PRIu32 " idle\n", campaign_boards(&larger), idle);
 }
 
 /* The whole list, of which none is taken. */
@@ -160,6 +174,7 @@ int main(void)
     struct campaign_tape scan, needed;
     struct campaign_rack_step step;
     uint64_t position = 2;
+    uint32_t idle = 0;
     uint8_t refusal;
 
     /* Lend memory for any campaign that is taken here, and open this one: one scan, one filling. */
@@ -170,6 +185,7 @@ int main(void)
     plan_tape(&scan, &plan, &prices);
     print_prices("plan", &prices);
     print_other(&plan);
+    print_larger(&scan);
     print_steps(&plan);
 
     /* Lend memory for the work, and run. */
@@ -182,7 +198,7 @@ int main(void)
     refusal = campaign_tape_open(tape, sizeof tape, array, points - 1, &scan);
     check("scan", campaign_tape_scan(tape, sizeof tape, &needed));
     printf("refused %u, the tape needs %" PRIu64 " cells\n", refusal, needed.points);
-    refusal = campaign_plan_make(scan.lengths, scan.axes, 3, &plan, &prices);
+    refusal = campaign_plan_make(scan.lengths, scan.axes, 11, &plan, &prices, &idle);
     printf("refused %u, the plan is still for %" PRIu32 " boards\n", refusal,
            campaign_boards(&plan));
     refusal = campaign_plan_step(&plan, array, points - 1, work, cells, &position, &step);

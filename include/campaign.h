@@ -21,7 +21,7 @@
  *
  * A run:
  *
- *     campaign_plan_make(lengths, axes, p, &plan, &prices)    plan, once
+ *     campaign_plan_make(lengths, axes, p, &plan, &prices, &idle)     plan, once
  *     cells = campaign_work_cells(&plan, &prices)
  *     work = calloc(cells, sizeof *work)
  *     position = 0
@@ -60,7 +60,8 @@ extern "C" {
 #define CAMPAIGN_BAD_LENGTH 4       /* an axis length is 0 or over 65,535 */
 #define CAMPAIGN_TOO_MANY_POINTS 5  /* the product of the lengths is over 16,777,216 */
 #define CAMPAIGN_TOO_MANY_BOARDS 6  /* p is over 10 */
-#define CAMPAIGN_NO_ROOM 7          /* planning: p is over the sum of floor(log2 length) */
+#define CAMPAIGN_NO_ROOM 7          /* retired, no function returns it: where the axes cannot be
+                                       divided for 2^p boards, fewer are used */
 #define CAMPAIGN_BAD_ORDER 8        /* the order does not name each axis once, or a slot past the
                                        last axis is not 0 */
 #define CAMPAIGN_BAD_EXPONENTS 9    /* an axis has more portions than it is long, or the exponents
@@ -76,8 +77,9 @@ extern "C" {
 
 /*
  * A plan. Lengths and exponents are by axis number; order[i] is the axis at place i of the plan.
- * An axis with exponent k is cut in 2^k portions, and the exponents sum to p. A caller may fill
- * one in by hand, and any lawful plan can be priced and run: set it to {0} first.
+ * An axis with exponent k is cut in 2^k portions, and the exponents sum to p: the plan uses 2^p
+ * boards. A caller may fill one in by hand, and any lawful plan can be priced and run: set it to
+ * {0} first.
  */
 struct campaign_rack_plan {
     uint8_t axes;
@@ -153,26 +155,37 @@ struct campaign_tape {
  */
 #define CAMPAIGN_PLAN_BYTES (2 + 2 * CAMPAIGN_AXES)
 #define CAMPAIGN_PRICES_CELLS 3                    /* moved, added, share */
+#define CAMPAIGN_MAKE_CELLS 4                      /* moved, added, share, idle */
 #define CAMPAIGN_STEP_CELLS 5                      /* kind, sender, receiver, choice, values */
 #define CAMPAIGN_PART_CELLS 2                      /* start, cells */
 #define CAMPAIGN_TAPE_CELLS (4 + CAMPAIGN_AXES)    /* axes, p, points, commands, lengths */
 
 /*
- * Planning for a rack controller, over bytes. Refusals 3 to 7, 13.
+ * Planning for a rack controller, over bytes. Refusals 3 to 6, 13.
  *
  * lengths      the axis lengths in axis order, two bytes each, the lower byte first
  * lengths_len  the number of bytes at `lengths`: twice the number of axes n
  * p            the rack has 2^p boards
  * result       n axis numbers (from 0), then n exponents, both in plan order, one byte each
  * result_len   exactly 2n
+ *
+ * The exponents sum to the p that is used: p, or where that is over F, the sum of floor(log2
+ * length), then F.
  */
 uint8_t campaign_plan(const uint8_t *lengths, size_t lengths_len, uint8_t p,
                       uint8_t *result, size_t result_len);
 
+/*
+ * How many of the 2^p boards stand idle under that plan: 2^p less 2 to the p that is used. `lengths`
+ * and p are those of campaign_plan, `idle` is one cell. Refusals 3 to 6, 13.
+ */
+uint8_t campaign_idle(const uint8_t *lengths, size_t lengths_len, uint8_t p,
+                      uint64_t *idle, size_t idle_len);
+
 /* Planning with prices: see campaign_plan_make. */
 uint8_t campaign_make(const uint32_t *lengths, size_t lengths_len, uint8_t p,
                       uint8_t *plan, size_t plan_len, uint32_t *slots, size_t slots_len,
-                      uint64_t *prices, size_t prices_len);
+                      uint64_t *cells, size_t cells_len);
 
 /* Pricing: see campaign_plan_price. */
 uint8_t campaign_price(const uint8_t *plan, size_t plan_len,
@@ -245,22 +258,25 @@ uint8_t campaign_open(const uint8_t *tape, size_t tape_len, int32_t *array, size
 
 /*
  * Plans a campaign for a rack of 2^p boards: the order of the axes, and into how many portions
- * each is cut. No way to form the totals, with any division of the axes for so many boards, moves
+ * each is cut. Where p is over F, the sum of floor(log2 length), the axes cannot be divided for so
+ * many boards, and 2^F are used: plan->p is then F, and *idle says how many of the 2^p stand idle,
+ * else 0. No way to form the totals, with any division of the axes for the boards in use, moves
  * fewer values or adds up fewer cells. `lengths` has the axes' lengths, in axis order. Refusals
- * 3 to 7.
+ * 3 to 6.
  */
 static inline uint8_t campaign_plan_make(const uint32_t *lengths, size_t axes, uint8_t p,
                                          struct campaign_rack_plan *plan,
-                                         struct campaign_prices *prices)
+                                         struct campaign_prices *prices, uint32_t *idle)
 {
-    uint64_t cells[CAMPAIGN_PRICES_CELLS];
+    uint64_t cells[CAMPAIGN_MAKE_CELLS];
     uint8_t refusal = campaign_make(lengths, axes, p, (uint8_t *)plan, CAMPAIGN_PLAN_BYTES,
-                                    plan->lengths, CAMPAIGN_AXES, cells, CAMPAIGN_PRICES_CELLS);
+                                    plan->lengths, CAMPAIGN_AXES, cells, CAMPAIGN_MAKE_CELLS);
 
     if (refusal == CAMPAIGN_OK) {
         prices->moved = cells[0];
         prices->added = cells[1];
         prices->share = cells[2];
+        *idle = (uint32_t)cells[3];
     }
     return refusal;
 }
@@ -281,7 +297,7 @@ static inline uint8_t campaign_plan_price(const struct campaign_rack_plan *plan,
     return refusal;
 }
 
-/* The boards of a plan's rack: 2^p; 0 where p is over CAMPAIGN_HIGHEST_P. */
+/* The boards that a plan uses: 2^p; 0 where p is over CAMPAIGN_HIGHEST_P. */
 static inline uint32_t campaign_boards(const struct campaign_rack_plan *plan)
 {
     return plan->p > CAMPAIGN_HIGHEST_P ? 0 : (uint32_t)1 << plan->p;
