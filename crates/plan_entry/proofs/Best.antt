@@ -18,7 +18,7 @@ use Rattle.plan_spec.specs.Accepted.{LengthsAccepted, PlanningAccepted}
 use Rattle.plan_spec.specs.Rule.{exponents, planOf, powerUsed, planWithin, idleBoards}
 use Rattle.plan_spec.specs.Trees.{lastSummed, treeAxis}
 use Rattle.plan_spec.specs.Refusals.{planningRefusal, planRefusal}
-use Rattle.plan_spec.specs.Answers.{pricesOf, pricing, plannedAs, planning}
+use Rattle.plan_spec.specs.Answers.{pricesOf, pricing, planning}
 use Rattle.plan_spec.proofs.Accepting.{planning-accept, planning-accepted, planned-accepted, lists-slotted}
 use Rattle.plan_spec.proofs.Answering.{refusal-of, plan-of, prices-of, idle-of}
 use Rattle.plan_spec.proofs.Unaltered.{used-greatest}

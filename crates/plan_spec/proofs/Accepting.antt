@@ -228,7 +228,11 @@ passed-accepted q l o k e = accepted q (rw length-map at l) (rw length-map at o)
 module _ (l : List ℕ) (few : length l ≤ axisLimit) where
   pub padded-length : length (padded l) ≡ 8
   unfolding padded
-  padded-length = let a = length-take 8 (l ++ replicate 8 0) in let b = length-append l (replicate 8 0) in let c = length-replicate {A = ℕ} 8 0 in omega arith
+  padded-length =
+      let a = length-take 8 (l ++ replicate 8 0) in
+      let b = length-append l (replicate 8 0) in
+      let c = length-replicate {A = ℕ} 8 0 in
+      omega arith
 
   pub take-padded : take (length l) (padded l) ≡ l
   unfolding padded

@@ -1,13 +1,12 @@
 -- What planning answers, field by field.
-use Prim.Native.Nat.{ℕ, zero, suc, _+_, _-_, _^_, _≤_, _<_}
+use Prim.Native.Nat.{ℕ, zero, suc, _-_, _^_, _≤_, _<_}
 use mathlib.Core.Path.{_≡_, sym, _∙_, refl, ap, ap₂}
-use mathlib.Core.Bool.{Bool, true}
-use mathlib.Core.List.{List, [], _∷_}
+use mathlib.Core.List.{List}
 use native.Mathlib.Omega.{arith}
 use borrow.Author.Tests.{lt-ltb, ne-eqb}
 use lib.ListN.{length, getD, take, replicate}
 use Rattle.cube_spec.specs.Limits.{axisLimit, powerLimit, padded}
-use Rattle.cube_spec.specs.Boxes.{pick, tableFrom, table}
+use Rattle.cube_spec.specs.Boxes.{table}
 use Rattle.cube_spec.specs.Checks.{first}
 use Rattle.cube_spec.proofs.Slots.{padded-at, padded-take}
 use Rattle.plan_spec.specs.declared.types.Plan.{Plan}
@@ -24,7 +23,11 @@ use Rattle.plan_spec.proofs.Demand.{plan-sound}
 use Rattle.plan_spec.proofs.Accepting.{used-le, planning-passed, planning-accepted, planned-accepted, lists-slotted}
 use Rattle.plan_spec.proofs.Arranging.{place-below, table-cong}
 
-pub blank : (n : ℕ) → 0 < n → (k : ℕ) (a : PlanLists) → _≡_ {A = Planned} (record { refusal = n; plan = record { axes = 0; p = 0; lengths = replicate axisLimit 0; order = replicate axisLimit 0; exponents = replicate axisLimit 0 }; prices = record { moved = 0; added = 0; share = 0 }; idle = 0 }) (plannedAs n k a)
+abbrev empty : Plan
+empty = record { axes = 0; p = 0; lengths = replicate axisLimit 0; order = replicate axisLimit 0; exponents = replicate axisLimit 0 }
+
+pub blank : (n : ℕ) → 0 < n → (k : ℕ) (a : PlanLists)
+    → _≡_ {A = Planned} (record { refusal = n; plan = empty; prices = record { moved = 0; added = 0; share = 0 }; idle = 0 }) (plannedAs n k a)
 blank zero h k a = absurd (omega arith)
 blank (suc n) h k a = unfold plannedAs slotted padded in refl
 
@@ -82,9 +85,12 @@ module _ (l : List ℕ) (p : ℕ) where
   unfolding slotted planOf
   plan-fields q a b c d e = (λ i. record { axes = a i; p = b i; lengths = c i; order = d i; exponents = e i })
 
-  pub planned-as : 0 ≡ planningRefusal l p → (k : ℕ) (q : Plan) (c : Prices) → k ≡ idleBoards l p → q ≡ slotted (planWithin l p) → c ≡ pricesOf (listsOf q) → listsOf (slotted (planWithin l p)) ≡ planWithin l p → _≡_ {A = Planned} (record { refusal = 0; plan = q; prices = c; idle = k }) (planning l p)
+  pub planned-as : 0 ≡ planningRefusal l p → (k : ℕ) (q : Plan) (c : Prices) → k ≡ idleBoards l p → q ≡ slotted (planWithin l p) → c ≡ pricesOf (listsOf q)
+      → listsOf (slotted (planWithin l p)) ≡ planWithin l p → _≡_ {A = Planned} (record { refusal = 0; plan = q; prices = c; idle = k }) (planning l p)
   unfolding planning
-  planned-as z k q c d e f s = planned-zero k (idleBoards l p) (planWithin l p) q c d e (f ∙ ap (λ x. pricesOf (listsOf x)) e ∙ ap pricesOf s) ∙ ap (λ n. plannedAs n (idleBoards l p) (planWithin l p)) z
+  planned-as z k q c d e f s =
+      let g = f ∙ ap (λ x. pricesOf (listsOf x)) e ∙ ap pricesOf s in
+      planned-zero k (idleBoards l p) (planWithin l p) q c d e g ∙ ap (λ n. plannedAs n (idleBoards l p) (planWithin l p)) z
 
   -- the plan comes out of its slots as it went in
   pub slots-back : PlanningAccepted l p → listsOf (slotted (planOf l p)) ≡ planOf l p
@@ -92,51 +98,73 @@ module _ (l : List ℕ) (p : ℕ) where
   slots-back ok = lists-slotted (planOf l p) (plan-sound l p (ok .lengths .some) (ok .enough)) (ok .lengths .few)
 
 -- ---- in the code's terms: `ds` are the lengths in slots, `bad` the refusal, `v` the arrangement, `ks` the exponents by axis number
-module _ (l ds : List ℕ) (p bad : ℕ) (slots : ds ≡ padded l) (fits : length l ≤ 8) (judged : bad ≡ planningRefusal (take (length l) ds) p) where
+
+module _ (l ds : List ℕ) (slots : ds ≡ padded l) (fits : length l ≤ axisLimit) where
   back : take (length l) ds ≡ l
   back = ap (take (length l)) slots ∙ padded-take l (length l) refl fits
 
-  pub judged-so : bad ≡ planningRefusal l p
-  judged-so = judged ∙ ap (λ x. planningRefusal x p) back
+  pub judged-so : (p bad : ℕ) → bad ≡ planningRefusal (take (length l) ds) p → bad ≡ planningRefusal l p
+  judged-so p bad judged = judged ∙ ap (λ x. planningRefusal x p) back
 
-  module _ (fine : bad ≡ 0) (used : ℕ) (fitted : used ≡ powerUsed (take (length l) ds) p) where
-    used-so : used ≡ powerUsed l p
-    used-so = fitted ∙ ap (λ x. powerUsed x p) back
+-- lengths in slots that no check refuses, and the p used
+pub record Passed (l ds : List ℕ) (p used : ℕ) : Type 0 where
+  pub slots : ds ≡ padded l
+  pub fits : length l ≤ axisLimit
+  pub none : planningRefusal l p ≡ 0
+  pub fitted : used ≡ powerUsed l p
 
-    pub fine-slots : PlanningAccepted (take (length l) ds) used
-    fine-slots = rw fitted (planning-accepted (take (length l) ds) p (sym judged ∙ fine))
+pub passed : (l ds : List ℕ) (p used bad : ℕ) → ds ≡ padded l → length l ≤ axisLimit → bad ≡ planningRefusal (take (length l) ds) p → bad ≡ 0
+    → used ≡ powerUsed (take (length l) ds) p → Passed l ds p used
+passed l ds p used bad slots fits judged fine fitted =
+    let none = sym (judged-so l ds slots fits p bad judged) ∙ fine in
+    record { slots = slots; fits = fits; none = none; fitted = fitted ∙ ap (λ x. powerUsed x p) (back l ds slots fits) }
 
-    fine-lengths : PlanningAccepted l used
-    fine-lengths = rw used-so (planning-accepted l p (sym judged-so ∙ fine))
+module _ {l ds : List ℕ} {p used : ℕ} (k : Passed l ds p used) where
+  taken-back : take (length l) ds ≡ l
+  taken-back = back l ds (k .slots) (k .fits)
 
-    -- no more boards are used than asked for, and 2^p of those are counted
-    pub used-asked : (used ≤ p) × (p ≤ powerLimit)
-    used-asked = (rw used-so (used-le l p), planning-passed l p (sym judged-so ∙ fine) .1)
+  fine-lengths : PlanningAccepted l used
+  fine-lengths = rw (k .fitted) (planning-accepted l p (k .none))
 
-    module _ (v : Arrangement) (arranged : v ≡ arrangement (take (length l) ds) used) where
-      ordered : v .order ≡ padded (order l)
-      unfolding arrangement
-      ordered = ap (λ (w : Arrangement). w .order) arranged ∙ ap (λ x. padded (order x)) back
+  pub fine-slots : PlanningAccepted (take (length l) ds) used
+  fine-slots = rw taken-back fine-lengths
 
-      cut : v .exponents ≡ padded (orderedExponents l used)
-      unfolding arrangement
-      cut = ap (λ (w : Arrangement). w .exponents) arranged ∙ ap (λ x. padded (orderedExponents x used)) back
+  -- no more boards are used than asked for, and 2^p of those are counted
+  pub used-asked : (used ≤ p) × (p ≤ powerLimit)
+  used-asked = (rw (k .fitted) (used-le l p), planning-passed l p (k .none) .1)
 
-      pub placed : (a : ℕ) → a < length l → find a (take (length l) (v .order)) < length l
-      placed a h = rw ordered (found l used fine-lengths fits a h)
+  module _ (v : Arrangement) (arranged : v ≡ arrangement (take (length l) ds) used) where
+    ordered : v .order ≡ padded (order l)
+    unfolding arrangement
+    ordered = ap (λ (w : Arrangement). w .order) arranged ∙ ap (λ x. padded (order x)) taken-back
 
-      module _ (ks : List ℕ) (spread : ks ≡ padded (table (length l) (λ a. getD (v .exponents) (find a (take (length l) (v .order))) 0))) where
-        abbrev made : Plan
-        made = record { axes = length l; p = used; lengths = ds; order = v .order; exponents = ks }
+    cut : v .exponents ≡ padded (orderedExponents l used)
+    unfolding arrangement
+    cut = ap (λ (w : Arrangement). w .exponents) arranged ∙ ap (λ x. padded (orderedExponents x used)) taken-back
 
-        by-axis : ks ≡ padded (exponents l used)
-        by-axis = spread ∙ ap₂ (λ (k o : List ℕ). padded (table (length l) (λ a. getD k (find a (take (length l) o)) 0))) cut ordered ∙ exponents-slots l used fine-lengths fits
+    pub placed : (a : ℕ) → a < length l → find a (take (length l) (v .order)) < length l
+    placed a h = rw ordered (found l used fine-lengths (k .fits) a h)
 
-        same : made ≡ slotted (planWithin l p)
-        same = plan-fields l used made refl refl slots ordered by-axis ∙ ap (λ k. slotted (planOf l k)) used-so
+    module _ (ks : List ℕ) (spread : ks ≡ padded (table (length l) (λ a. getD (v .exponents) (find a (take (length l) (v .order))) 0))) where
+      abbrev made : Plan
+      made = record { axes = length l; p = used; lengths = ds; order = v .order; exponents = ks }
 
-        pub made-accepted : planRefusal made ≡ 0
-        made-accepted = ap planRefusal same ∙ planned-accepted l p (sym judged-so ∙ fine)
+      by-axis : ks ≡ padded (exponents l used)
+      by-axis =
+          spread
+          ∙ ap₂ (λ (k o : List ℕ). padded (table (length l) (λ a. getD k (find a (take (length l) o)) 0))) cut ordered
+          ∙ exponents-slots l used fine-lengths (k .fits)
 
-        pub made-planned : (c : Prices) (k : ℕ) → c ≡ pricesOf (listsOf made) → k ≡ 2 ^ p - 2 ^ used → _≡_ {A = Planned} (record { refusal = 0; plan = made; prices = c; idle = k }) (planning l p)
-        made-planned c k e i = planned-as l p (sym fine ∙ judged-so) k made c (i ∙ (unfold idleBoards in ap (λ u. 2 ^ p - 2 ^ u) used-so)) same e (slots-back l (powerUsed l p) (planning-accepted l p (sym judged-so ∙ fine)))
+      same : made ≡ slotted (planWithin l p)
+      same = plan-fields l used made refl refl (k .slots) ordered by-axis ∙ ap (λ u. slotted (planOf l u)) (k .fitted)
+
+      pub made-accepted : planRefusal made ≡ 0
+      made-accepted = ap planRefusal same ∙ planned-accepted l p (k .none)
+
+      -- that plan, its prices and the boards that are asked for and not used are what planning answers
+      pub made-planned : (c : Prices) (i : ℕ) → c ≡ pricesOf (listsOf made) → i ≡ 2 ^ p - 2 ^ used
+          → _≡_ {A = Planned} (record { refusal = 0; plan = made; prices = c; idle = i }) (planning l p)
+      unfolding idleBoards
+      made-planned c i e j =
+          let b = slots-back l (powerUsed l p) (planning-accepted l p (k .none)) in
+          planned-as l p (sym (k .none)) i made c (j ∙ ap (λ u. 2 ^ p - 2 ^ u) (k .fitted)) same e b

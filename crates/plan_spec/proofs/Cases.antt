@@ -7,7 +7,6 @@ use Rattle.cube_spec.specs.Checks.{gives, refuses}
 use Rattle.plan_spec.specs.Computing.{computing}
 use Rattle.plan_spec.specs.declared.types.Plan.{Plan}
 use Rattle.plan_spec.specs.declared.types.Prices.{Prices}
-use Rattle.plan_spec.specs.declared.types.Planned.{Planned}
 use Rattle.plan_spec.specs.Answers.{pricing, planning}
 use Rattle.plan_spec.specs.Rule.{order, orderedExponents, powerUsed, idleBoards}
 use Rattle.plan_spec.specs.Refusals.{planningRefusal, planRefusal}

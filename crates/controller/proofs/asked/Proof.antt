@@ -3,15 +3,13 @@ use Prim.Native.Nat.{_+_, _/_}
 use mathlib.Core.Path.{_≡_, _∙_, ap, sym}
 use native.Mathlib.Omega.{arith}
 use borrow.Author.Needs.{needs}
-use lib.ListN.{length, take}
+use lib.ListN.{length}
 use Rattle.plan_spec.specs.Rule.{powerUsed}
 use Rattle.plan_spec.specs.Refusals.{planningRefusal}
 use Rattle.plan_spec.proofs.Accepting.{used-le, planning-passed}
-use Rattle.controller.specs.Bytes.{pairs, askedRefusal}
 use Rattle.controller.proofs.Pairing.{taken-back, asks-odd, asks-planning, asks-many, asked-as, asked-given}
 use Rattle.controller.proofs.asked.Statement.{statement}
 use Rattle.controller.proofs.asked.Tie as tie
-use Rattle.controller.proofs.asked.Lts as lts
 
 returns : tie.Need-returns
 returns c =

@@ -3,7 +3,7 @@ use Prim.Native.Nat.{_+_, _/_}
 use mathlib.Core.Path.{_≡_, _∙_, sym}
 use native.Mathlib.Omega.{arith}
 use borrow.Author.Needs.{needs}
-use lib.ListN.{length, take}
+use lib.ListN.{length}
 use Rattle.plan_spec.proofs.Accepting.{planning-accepted}
 use Rattle.controller.specs.Bytes.{askedRefusal}
 use Rattle.controller.proofs.Pairing as pairing

@@ -15,9 +15,6 @@ returns c =
     let q = length-take-le (a .axes) (a .lengths) (omega arith) in
     refuses-none (take (a .axes) (a .lengths)) (a .p) (omega arith)
 
-lengths-refusal-requires : tie.Need-lengths-refusal-requires
-lengths-refusal-requires c κs = c .before .pre
-
 returns-2 : tie.Need-returns-2
 returns-2 c =
     let s = c .before .before .before in
@@ -56,7 +53,7 @@ planning-refusal-spec =
     tie.close
     (tie.spec
     returns
-    lengths-refusal-requires
+    (λ c κs. c .before .pre)
     returns-2
     returns-3
     returns-4)

@@ -6,12 +6,6 @@ use Rattle.plan_spec.proofs.Accepting.{used-all, used-most}
 use Rattle.plan_entry.proofs.planning.power_used.Statement.{statement}
 use Rattle.plan_entry.proofs.planning.power_used.Tie as tie
 
-room-of-requires : tie.Need-room-of-requires
-room-of-requires c κs = c .pre
-
-cast-result : tie.Need-cast-result
-cast-result c = search needs
-
 returns : tie.Need-returns
 returns c =
     let a = c .before .before .args in
@@ -24,4 +18,4 @@ returns-2 c =
     used-all (take (a .axes) (a .lengths)) (a .p) (rw (c .before .room-of .ensures) at (c .if1 .left))
 
 pub power-used-spec : {M : Type 1} → statement M
-power-used-spec = tie.close (tie.spec room-of-requires cast-result returns returns-2)
+power-used-spec = tie.close (tie.spec (λ c κs. c .pre) (λ c. search needs) returns returns-2)
