@@ -20,7 +20,7 @@ use Rattle.plan_spec.proofs.Accepting.{padded-length, planning-numbered, planni
 use Rattle.plan_spec.proofs.Answering.{refusal-of, plan-of, prices-of, idle-of}
 use Rattle.plan_spec.proofs.Demand.{plan-sound}
 use Rattle.cube_spec.proofs.Sums.{by}
-use Rattle.cube_spec.proofs.Dues.{Numbered, first-due, first-passed, lacks, never}
+use Rattle.cube_spec.proofs.Dues.{Numbered, first-due, first-passed}
 use Rattle.rack_spec.specs.Finding.{planGrid}
 use Rattle.rack_spec.specs.Answers.{Told}
 use Rattle.run_spec.specs.Entries.{Outcome, outcome, stepChecks, stepRefusal, stepping, viewChecks, viewRefusal, viewing, gatherRefusal, gathering}
@@ -239,15 +239,6 @@ module _ (ds : List ℕ) (p : ℕ) where
     pub make-accepted : makeRefusal ds p (length small) (length slots) (length cells) ≡ 0
         → planRefusal (planFrom (making ds p small slots cells .small) (making ds p small slots cells .slots)) ≡ 0
     make-accepted z = rw (make-taken z) (planned-accepted ds p (passes z))
-
--- "7 is no longer given"
-pub never-make : (ds : List ℕ) (p small slots cells : ℕ) → makeRefusal ds p small slots cells ≡ 7 → ⊥
-unfolding makeRefusal planningChecks lengthChecks lacks
-never-make ds p small slots cells = never 7 (planningChecks ds p ++ (check 13 (wrongSlices small slots cells) ∷ [])) (omega arith) refl
-
-pub never-idle : (bytes : List ℕ) (p lent : ℕ) → idleRefusal bytes p lent ≡ 7 → ⊥
-unfolding idleRefusal lentRefusal askedChecks planningChecks lengthChecks lacks
-never-idle bytes p lent = never 7 (askedChecks bytes p ++ (check 13 (not (eqb lent 1)) ∷ [])) (omega arith) refl
 
 view-granted : (q : Plan) (work at b lent : ℕ) → partRefusal q work at b lent ≡ 0 → viewRefusal q work at b ≡ 0
 unfolding partRefusal lentRefusal viewRefusal

@@ -1,3 +1,4 @@
 pub mod Best
 pub mod Calling
 pub mod Cases
+pub mod Retired

@@ -15,7 +15,7 @@ use plan_price::pricing::price;
 use plan_spec::types::Priced;
 
 // Planning for a rack controller: lengths as 2-byte little-endian pairs and p. The result of 2n bytes gets the axis numbers and then the exponents,
-// both in plan order.
+// both in plan order; these sum to the p used.
 #[no_mangle]
 pub extern "C" fn campaign_plan(lengths: &[u8], p: u8, result: &mut [u8]) -> u8
     ensures { λ r. ⌜ (r ≡ controllerRefusal (now (lengths .entry)) p (length (now (result .entry))))

@@ -168,11 +168,7 @@ module _ (bytes : List ℕ) (p m : ℕ) where
         let q : wrongResult (pairs bytes) m ≡ false = (unfold wrongResult in rw (l, eq-eqb m (2 * n) (omega arith))) in
         sym (past ∙ (rw q))
 
--- "7 is no longer given": nor for what is asked for alone
-pub never-asked : (bytes : List ℕ) (p : ℕ) → askedRefusal bytes p ≡ 7 → ⊥
-unfolding askedRefusal askedChecks planningChecks lengthChecks lacks
-never-asked bytes p = never 7 (askedChecks bytes p) (omega arith) refl
-
+-- "7 is no longer given"
 pub never-controller : (bytes : List ℕ) (p m : ℕ) → controllerRefusal bytes p m ≡ 7 → ⊥
 unfolding controllerRefusal controllerChecks askedChecks planningChecks lengthChecks lacks
 never-controller bytes p m = never 7 (controllerChecks bytes p m) (omega arith) refl

@@ -1,4 +1,4 @@
--- What demand 3 says of the controller's result: it holds a lawful plan, and no way with any division over the same boards moves fewer values
+-- What demand 3 says of the controller's result: it holds a lawful plan, and no way with any division over the boards in use moves fewer values
 -- or adds fewer cells.
 use Prim.Native.Nat.{ℕ, _≤_, _<_}
 use mathlib.Core.Path.{_≡_}
@@ -12,7 +12,7 @@ use Rattle.plan_spec.specs.Trees.{lastSummed}
 use Rattle.rack_spec.specs.Grids.{gridOf, maskOf, summed}
 use Rattle.rack_spec.specs.Pointed.{HasPoint, Pointed}
 
--- "Demand 3 compares parents and divisions jointly.": of the lengths ds and p and the plan a that the result holds
+-- "Demand 3 compares parents and divisions jointly.": of the lengths ds, the p used and the plan a that the result holds
 pub record BestPlan (ds : List ℕ) (p : ℕ) (a : PlanLists) : Type 0 where
   -- it is a lawful plan of these lengths over 2^p boards
   pub lengths : a .lengths ≡ ds

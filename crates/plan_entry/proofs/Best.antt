@@ -1,5 +1,5 @@
 -- Demand 3 tied to the planner's own clause: whatever a call of `plan` returns with refusal 0 is best over the boards in use, and can be run (specs/Best).
-use Prim.Native.Nat.{ℕ, _-_, _^_, _≤_}
+use Prim.Native.Nat.{ℕ, _+_, _^_, _≤_}
 use mathlib.Core.Path.{_≡_, sym, _∙_, refl, ap, subst}
 use mathlib.Core.List.{List}
 use denote.Ref.{now}
@@ -21,7 +21,7 @@ use Rattle.plan_spec.specs.Refusals.{planningRefusal, planRefusal}
 use Rattle.plan_spec.specs.Answers.{pricesOf, pricing, planning}
 use Rattle.plan_spec.proofs.Accepting.{planning-accept, planning-accepted, planned-accepted, lists-slotted}
 use Rattle.plan_spec.proofs.Answering.{refusal-of, plan-of, prices-of, idle-of}
-use Rattle.plan_spec.proofs.Unaltered.{used-greatest}
+use Rattle.plan_spec.proofs.Unaltered.{idle-used, used-greatest}
 use Rattle.plan_spec.proofs.PricingLaws.{answer-given}
 use Rattle.plan_spec.proofs.Demand.{demand, plan-sound}
 use Rattle.rack_spec.specs.Grids.{gridOf, maskOf, summed}
@@ -77,9 +77,9 @@ module _ (l : List ℕ) (p : ℕ) (e : planning l p .refusal ≡ 0) where
   lists-are : listsOf (planning l p .plan) ≡ planWithin l p
   lists-are = ap listsOf plan-is ∙ lists-planned l used accepted
 
-  pub answer-idle : planning l p .idle ≡ idleBoards l p
+  pub answer-idle : planning l p .idle + 2 ^ used ≡ 2 ^ p
   unfolding planning
-  answer-idle = idle-of (planningRefusal l p) (idleBoards l p) (planWithin l p) fine
+  answer-idle = ap (λ i. i + 2 ^ used) (idle-of (planningRefusal l p) (idleBoards l p) (planWithin l p) fine) ∙ idle-used l p
 
   pub answer-best : Best l used (planning l p)
   answer-best =
@@ -141,14 +141,13 @@ module _ (κs : Lfts 1) (a : ArgsD signature κs) (r : ResD signature κs) (s : 
     pub planned-best : Best lengths power r
     planned-best = subst (Best lengths power) (sym says) (answer-best lengths asked none)
 
-    -- Statement: the plan has the p used, and no entry that takes a plan refuses it.
+    -- Statement: the plan has the p used, and no entry refuses it for what a plan may be (3 to 9).
     pub planned-runs : Runnable lengths power r
     planned-runs = subst (Runnable lengths power) (sym says) (answer-runs lengths asked none)
 
-    -- Statement: "how many of the boards asked for stand idle": those that are not the plan's.
-    pub planned-idle : r .idle ≡ 2 ^ asked - 2 ^ listsOf (r .plan) .p
-    unfolding idleBoards
-    planned-idle = ap (λ (x : Planned). x .idle) says ∙ answer-idle lengths asked none ∙ ap (λ u. 2 ^ asked - 2 ^ u) (sym (planned-runs .boards))
+    -- Statement: "how many of the boards asked for stand idle": with the plan's they are all that were asked for.
+    pub planned-idle : r .idle + 2 ^ listsOf (r .plan) .p ≡ 2 ^ asked
+    planned-idle = rw (planned-runs .boards) (ap (λ (x : Planned). x .idle + 2 ^ power) says ∙ answer-idle lengths asked none)
 
     -- Statement: and no division of these axes puts more of the boards asked for to use.
     pub planned-most : (q : ℕ) → q ≤ asked → Division lengths q → q ≤ listsOf (r .plan) .p

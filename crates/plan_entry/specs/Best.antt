@@ -1,4 +1,4 @@
--- What demand 3 says of the planner's answer: no way with any division over the same boards moves fewer values or adds fewer cells than it says,
+-- What demand 3 says of the planner's answer: no way with any division over the boards in use moves fewer values or adds fewer cells than it says,
 -- and the tree and the exponents of the returned plan move and add just that.
 use Prim.Native.Nat.{ℕ, _≤_, _<_}
 use mathlib.Core.Path.{_≡_}
@@ -16,7 +16,7 @@ use Rattle.plan_spec.specs.Answers.{pricesOf, pricing}
 use Rattle.rack_spec.specs.Grids.{gridOf, maskOf, summed}
 use Rattle.rack_spec.specs.Pointed.{HasPoint, Pointed}
 
--- "Demand 3 compares parents and divisions jointly.": of the lengths l and p and the planner's answer r
+-- "Demand 3 compares parents and divisions jointly.": of the lengths l, the p used and the planner's answer r
 pub record Best (l : List ℕ) (p : ℕ) (r : Planned) : Type 0 where
   pub moved-least : (e : Division l p) (w : Way (length l)) → r .prices .moved ≤ movedBy l e w
   pub added-least : (w : Way (length l)) → r .prices .added ≤ addedBy l w

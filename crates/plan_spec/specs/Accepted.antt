@@ -1,4 +1,4 @@
--- What an accepted plan, and what accepted lengths with p, guarantee, in plain facts: what no refusal leaves over.
+-- What an accepted plan guarantees, and accepted lengths with a p that they can be divided for, in plain facts: what no refusal leaves over.
 use Prim.Native.Nat.{ℕ, _≤_, _<_}
 use mathlib.Core.Path.{_≡_}
 use mathlib.Core.List.{List}
@@ -17,7 +17,7 @@ pub record LengthsAccepted (ds : List ℕ) : Type 0 where
   pub short : (d : ℕ) → d < length ds → lengthOf ds d ≤ lengthLimit
   pub small : points ds ≤ pointLimit
 
--- the planner's rule has a plan for ds and p: the checks 3 to 6 are passed, and there is a division
+-- the planner's rule has a plan for ds and p: they pass checks 3 to 6, and there is a division. So it is of the p used, for whatever planning accepts
 pub record PlanningAccepted (ds : List ℕ) (p : ℕ) : Type 0 where
   pub lengths : LengthsAccepted ds
   pub boards : p ≤ powerLimit

@@ -1,4 +1,4 @@
--- What planning answered by paper 01, before request 7/12: what that request leaves unaltered is stated with it.
+-- What planning answered by paper 01 alone, to say what request 7/12 leaves unaltered.
 use Prim.Native.Nat.{ℕ}
 use mathlib.Core.List.{List, [], _∷_, _++_}
 use lib.Dec.{ltb}
@@ -13,6 +13,6 @@ use Rattle.plan_spec.specs.Answers.{plannedAs}
 unfoldable pub refusalBefore : List ℕ → ℕ → ℕ
 refusalBefore ds p = first (planningChecks ds p ++ (check 7 (ltb (room ds) p) ∷ []))
 
--- the rule's plan for p itself; no board stood idle
+-- the rule's plan for the p asked for; no board stood idle
 unfoldable pub planningBefore : List ℕ → ℕ → Planned
 planningBefore ds p = plannedAs (refusalBefore ds p) 0 (planOf ds p)

@@ -1,13 +1,14 @@
 -- Laws of the reader's refusals: the scan's come first, then the slice's.
 use Prim.Native.Nat.{ℕ, zero, suc, _≤_, _<_}
 use mathlib.Core.Path.{_≡_, refl, sym, _∙_}
+use mathlib.Core.Bool.{true}
 use mathlib.Core.List.{List, [], _∷_, _++_}
 use native.Mathlib.Omega.{arith}
 use borrow.Author.Tests.{lt-ltb, le-ltb, ltb-false}
 use lib.ListN.{length}
 use lib.IntN.{ℤ}
 use Rattle.cube_spec.specs.Checks.{Check, check, first}
-use Rattle.cube_spec.proofs.Dues.{Numbered, numbered-both, first-due, first-passed, none-first, none-both}
+use Rattle.cube_spec.proofs.Dues.{Numbered, numbered-both, first-due, first-passed, none-first, none-both, lacks}
 use Rattle.tape_spec.specs.declared.types.Scan.{Scan}
 use Rattle.tape_spec.specs.Tapes.{commands, Entry, form, Campaign, campaign}
 use Rattle.tape_spec.specs.Reading.{orEmpty, entriesIn, entryChecks, scanChecks, scanRefusal, commandCount, scannedAs, scanning, shortSlice, readingChecks, readingRefusal, filledOr, reading}
@@ -35,6 +36,16 @@ entries-numbered (e ∷ es) = (omega arith, (omega arith, entries-numbered es))
 pub numbered : (tape : List ℕ) → Numbered (scanChecks tape)
 unfolding scanChecks
 numbered tape = (omega arith, (omega arith, entries-numbered (entriesIn (form tape))))
+
+-- 7, which request 7/12 retires, is none of the scan's numbers
+entries-lack : (es : List Entry) → lacks 7 (entryChecks es) ≡ true
+unfolding entryChecks lacks
+entries-lack [] = refl
+entries-lack (e ∷ es) = entries-lack es
+
+pub scan-lacks : (tape : List ℕ) → lacks 7 (scanChecks tape) ≡ true
+unfolding scanChecks lacks
+scan-lacks tape = entries-lack (entriesIn (form tape))
 
 pub reading-numbered : (tape : List ℕ) (n : ℕ) → Numbered (readingChecks tape n)
 unfolding readingChecks

@@ -1,4 +1,4 @@
--- What the program makes of a tape before it runs: the planner's plan with its prices, or the refusal and nothing beside it.
+-- What the program makes of a tape before it runs: the planner's plan with its prices and the idle boards, or the refusal and nothing beside it.
 use Prim.Native.Nat.{ℕ}
 use mathlib.Core.List.{List}
 use Rattle.plan_spec.specs.Rule.{idleBoards}
