@@ -471,7 +471,7 @@ static inline uint8_t campaign_tape_scan(const uint8_t *tape, size_t tape_len,
 /*
  * Opens a campaign: does what campaign_tape_scan and campaign_fill do, but scans the tape once,
  * where these two scan it twice. Refusals 1, 2, 14, 15, 11. As with the scan, the lengths, p and
- * the number of points are judged by planning and by the steps (3 to 7 and 10), not here.
+ * the number of points are judged by planning and by the steps (3 to 6 and 10), not here.
  *
  * A caller lends as many cells as the largest campaign that it takes has points, and 11 says that
  * the tape has more; no campaign that can be planned has more than CAMPAIGN_POINTS. One that would

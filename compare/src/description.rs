@@ -20,6 +20,8 @@ mod reader;
 use std::io::{self, Read, Write};
 
 use crate::fault::Fault;
+use crate::judge::Refusal;
+use crate::plan::Planned;
 use crate::reading::Reading;
 use crate::spell::{self, Command};
 use crate::tape::Run;
@@ -70,14 +72,28 @@ impl Description {
         spell::tape(&self.lengths, self.p, points)
     }
 
-    /// The program judges the campaign; whoever writes it hears of it here already.
+    /// The program judges the campaign, and its report does not tell of idle boards; whoever
+    /// writes it hears of both here already.
     fn warning(&self, tape: &[u8]) -> Option<String> {
-        let refusal = totals::accepted(tape).err()?;
+        match totals::accepted(tape) {
+            Ok(campaign) => idle(&campaign.planned),
+            Err(refusal) => self.refused(refusal, tape),
+        }
+    }
+
+    fn refused(&self, refusal: Refusal, tape: &[u8]) -> Option<String> {
         let why = words::refusal(refusal)?;
         let points: u64 = self.points.iter().map(|equal| equal.count).sum();
         let has = format!("{} axes, {points} points, {} bytes", self.lengths.len(), tape.len());
         Some(format!("the program will print 'refused {}': {why} ({has})", refusal.0))
     }
+}
+
+fn idle(planned: &Planned) -> Option<String> {
+    let Planned { plan, idle } = planned;
+    let asked = plan.boards() + idle;
+    (*idle > 0)
+        .then(|| format!("{idle} of the {asked} boards will stand idle: p {} is used", plan.p))
 }
 
 fn shortest(equal: &Equal) -> Vec<Command> {

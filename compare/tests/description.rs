@@ -282,8 +282,21 @@ fn a_refusal_to_come_is_told() {
         let printed = compare_on(&["totals"], &answer.output).output;
         assert_eq!(text(&printed), format!("refused {number}\n"));
     }
-    let idle = compare_on(&["tape"], b"lengths 3 2\np 6\n1*6");
-    assert!(idle.errors.is_empty() && idle.status.success());
+}
+
+/// The report does not tell of them.
+#[test]
+fn idle_boards_are_told() {
+    let told = [
+        ("lengths 3 2\np 6\n1*6", "compare: 60 of the 64 boards will stand idle: p 2 is used\n"),
+        ("lengths 1\np 1\n1", "compare: 1 of the 2 boards will stand idle: p 0 is used\n"),
+        ("lengths 3 2\np 2\n1*6", ""),
+    ];
+    for (description, says) in told {
+        let answer = compare_on(&["tape"], description.as_bytes());
+        assert_eq!(text(&answer.errors), says);
+        assert!(answer.status.success());
+    }
 }
 
 /// Points written one way or another, in lines of any length.

@@ -70,7 +70,7 @@ plan-refused : (planRefusal (lent 0 (replicate 8 0) (replicate 8 0) (replicate 8
 unfolding computing
 plan-refused = (refl, refl, refl, refl, refl, refl, refl, refl, refl, refl, refl, refl, refl, refl)
 
--- ---- boards in use and idle: room for p, just for p, for all but one, for one of seven; no room at all
+-- ---- boards in use and idle: p below F, at F, past it by one and by six, and where F is 0
 
 used : (powerUsed (7 ∷ 4 ∷ 3 ∷ []) 3 ≡ 3)
     × (powerUsed (7 ∷ 4 ∷ 3 ∷ []) 5 ≡ 5)

@@ -3,7 +3,8 @@ use Prim.Native.Nat.{_+_, _/_}
 use mathlib.Core.Path.{_≡_, _∙_, sym}
 use native.Mathlib.Omega.{arith}
 use borrow.Author.Needs.{needs}
-use lib.ListN.{length}
+use lib.ListN.{length, take}
+use Rattle.plan_spec.specs.Accepted.{PlanningAccepted}
 use Rattle.plan_spec.proofs.Accepting.{planning-accepted}
 use Rattle.controller.specs.Bytes.{askedRefusal}
 use Rattle.controller.proofs.Pairing as pairing
@@ -40,7 +41,9 @@ arrange-requires c κs =
     let z : askedRefusal b (s .p) ≡ 0 = sym (refusal-is b (s .p) _ (a .asked .ensures)) ∙ e1 .if1 .left in
     let few = few-axes b (s .p) z in
     let t = taken-back (length b / 2) b _ (even-bytes b (s .p) z) few (lengths-are b (s .p) _ (a .asked .ensures) (e1 .if1 .left)) in
-    (few, rw (t, used-is b (s .p) _ (a .asked .ensures) (e1 .if1 .left)) (planning-accepted _ (s .p) (asks-none b (s .p) z)))
+    let used = used-is b (s .p) _ (a .asked .ensures) (e1 .if1 .left) in
+    let ok : PlanningAccepted (take (length b / 2) (a .asked .result .lengths)) (a .asked .result .used) = rw (t, used) (planning-accepted _ (s .p) (asks-none b (s .p) z)) in
+    (few, ok)
 
 put-requires : tie.Need-put-requires
 put-requires c κs =
