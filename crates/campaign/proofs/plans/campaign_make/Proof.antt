@@ -44,7 +44,8 @@ returns-5 c =
     let e1 = e2 .before in
     let a = e1 .before .before in
     let s = a .before .before .before .before .before .args in
-    calling.make-given _ _ (s .small .now) (s .slots .now) (s .cells .now) _ (a .plan .ensures) (e1 .if1 .left) (e2 .if2 .left) (e3 .if3 .left) (e4 .if4 .left) _ _ _ _ (d .put-plan .ensures .0) (d .put-plan .ensures .1) (r .put-planned .ensures .0) (r .put-planned .ensures .1)
+    calling.make-given _ _ (s .small .now) (s .slots .now) (s .cells .now) _ (a .plan .ensures) (e1 .if1 .left) (e2 .if2 .left) (e3 .if3 .left) (e4 .if4 .left)
+    _ _ _ _ (d .put-plan .ensures .0) (d .put-plan .ensures .1) (r .put-planned .ensures .0) (r .put-planned .ensures .1)
 
 pub campaign-make-spec : {M : Type 1} → statement M
 campaign-make-spec =
