@@ -3,6 +3,7 @@
 
 use crate::choice::{self, Choice};
 use crate::plan::{weight, Plan};
+use crate::search;
 
 /// Every choice but the full one.
 fn choices(plan: &Plan) -> impl Iterator<Item = Choice> {
@@ -40,6 +41,11 @@ pub fn added(plan: &Plan) -> u64 {
         choice::cells(&plan.lengths, parent)
     };
     choices(plan).map(parent_cells).sum()
+}
+
+/// The mark for a good order: yes where no selection of parents, tree or not, adds up fewer cells.
+pub fn fewest(plan: &Plan) -> bool {
+    added(plan) == search::least_added(&plan.lengths)
 }
 
 /// The step count T.

@@ -45,7 +45,8 @@ fn least_moved(lengths: &[u64], exponents: &[u32]) -> u64 {
     (0..choice::full(lengths.len())).map(cheapest).sum()
 }
 
-fn least_added(lengths: &[u64]) -> u64 {
+/// The division plays no part in it.
+pub fn least_added(lengths: &[u64]) -> u64 {
     let cheapest = |choice| {
         let parents = one_more(lengths, choice).map(|axis| added_from(lengths, choice, axis));
         parents.min().expect("every choice but the full one has a parent")

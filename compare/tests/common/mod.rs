@@ -1,6 +1,7 @@
 #![allow(dead_code)] // Each test file uses a part of it.
 
 pub mod exact;
+pub mod marks;
 pub mod process;
 
 use compare::plan::Plan;
