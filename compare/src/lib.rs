@@ -12,6 +12,7 @@ pub mod judge;
 pub mod listed;
 pub mod longest;
 pub mod make;
+pub mod marked;
 pub mod order;
 pub mod patterns;
 pub mod pieces;

@@ -1,11 +1,12 @@
 use std::path::Path;
 use std::process::ExitCode;
+use std::str::FromStr;
 use std::{env, io};
 
-use compare::judge::Refusal;
-use compare::plan::{planning, Planned};
+use compare::judge::{self, Refusal};
+use compare::plan::{planning, Plan, Planned};
 use compare::{
-    bench, check, description, listed, make, patterns, price, scans, show, table, totals,
+    bench, check, description, listed, make, marked, patterns, price, scans, show, table, totals,
 };
 
 const USAGE: &str = "\
@@ -16,13 +17,18 @@ usage: compare totals                   tape on standard input, totals on standa
                                         output
        compare plan P LENGTH..          the planner's plan, its prices, and how many of the
                                         2^P boards stand idle
+       compare price LENGTHS ORDER EXPONENTS
+                                        a plan's prices, and yes or no to fewest cells added
+                                        up; each a list with commas, lengths and exponents by
+                                        axis number: compare price 6,2 1,0 0,1
        compare tapes SEED N DIR         write N made tapes, each with what is printed for it
        compare check PROGRAM SEED N     run a program on N made tapes and compare
        compare bench [PROGRAM]          time the largest campaigns, each as a whole process
        compare table TOPIC              cases for the definitions, as an antt module:
                                         tapes (with their output), scans (of other
                                         tapes), steps (with what is held), memory (after
-                                        each step) or readings (with what each gives)
+                                        each step), marks (plans with their prices) or
+                                        readings (with what each gives)
 
 A report is what is printed for a tape. A campaign as text, for example:
 
@@ -54,6 +60,13 @@ fn run(words: &[&str]) -> Option<io::Result<bool>> {
             print_plan(planning(&lengths?, p.parse().ok()?));
             done(Ok(()))
         }
+        ["price", lengths, order, exponents] => {
+            let exponents: Vec<u32> = numbers(exponents)?;
+            let p = exponents.iter().fold(0, |sum: u32, &k| sum.saturating_add(k));
+            let (lengths, order) = (numbers(lengths)?, numbers(order)?);
+            print_priced(&Plan { lengths, order, exponents, p });
+            done(Ok(()))
+        }
         ["tapes", seed, count, folder] => {
             done(make::write(seed.parse().ok()?, count.parse().ok()?, Path::new(folder)))
         }
@@ -70,12 +83,21 @@ fn run(words: &[&str]) -> Option<io::Result<bool>> {
     }
 }
 
+/// A list with commas; an empty word lists nothing.
+fn numbers<T: FromStr>(word: &str) -> Option<Vec<T>> {
+    if word.is_empty() {
+        return Some(Vec::new());
+    }
+    word.split(',').map(|number| number.parse().ok()).collect()
+}
+
 fn module(topic: &str) -> Option<String> {
     match topic {
         "tapes" => Some(table::module()),
         "scans" => Some(scans::module()),
         "steps" => Some(listed::steps_module()),
         "memory" => Some(listed::memory_module()),
+        "marks" => Some(marked::module()),
         "readings" => Some(patterns::module()),
         _ => None,
     }
@@ -90,11 +112,24 @@ fn print_plan(planned: Result<Planned, Refusal>) {
     let exponents = plan.order.iter().map(|&axis| plan.exponents[axis].to_string());
     println!("order {}", listed(plan.order.iter().map(usize::to_string).collect()));
     println!("exponents {}", listed(exponents.collect()));
-    println!("moved {}", price::moved(&plan));
-    println!("added {}", price::added(&plan));
-    println!("A {}", plan.share());
-    println!("T {}", price::step_count(&plan));
+    print_prices(&plan);
     println!("idle {idle}");
+}
+
+/// Any plan's prices, or the first check that it fails.
+fn print_priced(plan: &Plan) {
+    if let Err(Refusal(number)) = judge::plan(plan) {
+        return println!("refused {number}");
+    }
+    print_prices(plan);
+    println!("fewest {}", if price::fewest(plan) { "yes" } else { "no" });
+}
+
+fn print_prices(plan: &Plan) {
+    println!("moved {}", price::moved(plan));
+    println!("added {}", price::added(plan));
+    println!("A {}", plan.share());
+    println!("T {}", price::step_count(plan));
 }
 
 fn main() -> ExitCode {

@@ -9,7 +9,7 @@ use compare::{make, table, totals};
 
 #[test]
 fn bad_arguments_get_the_usage() {
-    let commands: [&[&str]; 11] = [
+    let commands: [&[&str]; 16] = [
         &[],
         &["sum"],
         &["totals", "x"],
@@ -18,6 +18,11 @@ fn bad_arguments_get_the_usage() {
         &["plan"],
         &["plan", "x", "2"],
         &["plan", "1", "-2"],
+        &["price", "6,2", "1,0"],
+        &["price", "6,2", "1,0", "0,1", "1"],
+        &["price", "6,x", "1,0", "0,1"],
+        &["price", "6,2,", "1,0", "0,1"],
+        &["price", "6,2", "1,-1", "0,1"],
         &["tapes", "1", "2"],
         &["check", "true", "1"],
         &["check", "true", "1", "x"],
@@ -40,6 +45,50 @@ fn plan_prints_the_papers_cases() {
     assert_eq!(printed(&["plan", "3", "3", "2"]), p4);
     assert_eq!(printed(&["plan", "11", "3", "2"]), "refused 6\n");
     assert_eq!(printed(&["plan", "0", "65536"]), "refused 4\n");
+}
+
+/// What a typed plan gets.
+fn priced(lengths: &str, order: &str, exponents: &str) -> String {
+    text(&compare(&["price", lengths, order, exponents]).stdout)
+}
+
+/// 6 × 1 moved and 12 + 12 + 6 added up; then P6 in both orders, and P8 in both.
+#[test]
+fn price_prints_plans_worked_out_by_hand() {
+    let no = "moved 6\nadded 30\nA 7\nT 6\nfewest no\n";
+    assert_eq!(priced("6,2", "1,0", "0,1"), no);
+    let yes = "moved 5\nadded 18\nA 5\nT 7\nfewest yes\n";
+    assert_eq!(priced("4,2", "0,1", "0,1"), yes);
+    let no = "moved 4\nadded 20\nA 5\nT 6\nfewest no\n";
+    assert_eq!(priced("4,2", "1,0", "0,1"), no);
+    let yes = "moved 0\nadded 21\nA 6\nT 5\nfewest yes\n";
+    assert_eq!(priced("3,3", "0,1", "0,0"), yes);
+    assert_eq!(priced("3,3", "1,0", "0,0"), yes);
+    assert_eq!(priced("5", "0", "2"), "moved 3\nadded 5\nA 1\nT 5\nfewest yes\n");
+}
+
+/// By the list for plans from anyone, the first of several.
+#[test]
+fn price_prints_refusals() {
+    let refused = |lengths: &str, order: &str, exponents: &str, number: u8| {
+        assert_eq!(priced(lengths, order, exponents), format!("refused {number}\n"));
+    };
+    refused("", "", "", 3);
+    refused("1,1,1,1,1,1,1,1,0", "0", "11", 3);
+    refused("6,0", "1,0", "0,1", 4);
+    refused("65536,65535,65535", "0", "11", 4);
+    refused("4096,4097", "0", "11", 5);
+    refused("6,2", "0,0", "10,1", 6);
+    refused("6,2", "0,1", "4294967295,4294967295", 6);
+    refused("6,2", "0,0", "3,0", 8);
+    refused("6,2", "0,2", "0,1", 8);
+    refused("6,2", "0", "0,1", 8);
+    refused("6,2", "0,1,2", "0,1", 8);
+    refused("6,2", "", "", 8);
+    refused("6,2", "0,1", "3,0", 9);
+    refused("6,2", "0,1", "0,2", 9);
+    refused("6,2", "0,1", "0", 9);
+    refused("6,2", "0,1", "0,1,0", 9);
 }
 
 #[test]
