@@ -1,8 +1,9 @@
 /*
  * A whole campaign: two fault loops on three line sections, on a rack of two boards. Opens it from
  * its tape, plans it, lends memory, takes every step, gathers each choice when it is finished and
- * prints its totals; shows what another plan costs, what the boards hold, where a board's own cells
- * lie, the same campaign on a larger rack, and refusals that leave everything as it was.
+ * prints its totals; shows what another plan costs and that its order wastes additions, what the
+ * boards hold, where a board's own cells lie, the same campaign on a larger rack, and refusals that
+ * leave everything as it was.
  */
 #include <inttypes.h>
 #include <stdio.h>
@@ -56,11 +57,11 @@ static void plan_tape(const struct campaign_tape *scan, struct campaign_rack_pla
 
 static void print_prices(const char *what, const struct campaign_prices *prices)
 {
-    printf("%s: moved %" PRIu64 ", added %" PRIu64 ", share %" PRIu64 "\n", what,
-           prices->moved, prices->added, prices->share);
+    printf("%s: moved %" PRIu64 ", added %" PRIu64 ", share %" PRIu64 ", fewest added up: %s\n",
+           what, prices->moved, prices->added, prices->share, prices->fewest ? "yes" : "no");
 }
 
-/* The same campaign with its axes in the order of the tape, and cut along the first. */
+/* The same campaign with its axes in the order of the tape, the shorter first, and cut along that. */
 static void print_other(const struct campaign_rack_plan *plan)
 {
     struct campaign_rack_plan other = *plan;

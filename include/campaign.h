@@ -109,6 +109,7 @@ struct campaign_prices {
     uint64_t moved;  /* values moved between boards */
     uint64_t added;  /* cells added up */
     uint64_t share;  /* A: the cells of one board's share of the work area */
+    uint64_t fewest; /* 1: no way to form the totals adds up fewer cells; 0: some way does */
 };
 
 enum campaign_kind {
@@ -154,7 +155,7 @@ struct campaign_tape {
  * result slice is exactly as long as is said here, else CAMPAIGN_BAD_RESULT is due, last.
  */
 #define CAMPAIGN_PLAN_BYTES (2 + 2 * CAMPAIGN_AXES)
-#define CAMPAIGN_PRICES_CELLS 3                    /* moved, added, share */
+#define CAMPAIGN_PRICES_CELLS 4                    /* moved, added, share, fewest */
 #define CAMPAIGN_MAKE_CELLS 4                      /* moved, added, share, idle */
 #define CAMPAIGN_STEP_CELLS 5                      /* kind, sender, receiver, choice, values */
 #define CAMPAIGN_PART_CELLS 2                      /* start, cells */
@@ -276,12 +277,19 @@ static inline uint8_t campaign_plan_make(const uint32_t *lengths, size_t axes, u
         prices->moved = cells[0];
         prices->added = cells[1];
         prices->share = cells[2];
+        prices->fewest = 1; /* as campaign_price says of every plan of campaign_make */
         *idle = (uint32_t)cells[3];
     }
     return refusal;
 }
 
-/* What a plan costs. Refusals 3 to 6, 8, 9, as of every function that takes a plan. */
+/*
+ * What a plan costs, and whether its order wastes additions: prices->fewest is 1 where the lengths
+ * never rise along the order, equal neighbours counting as no rise, and then no selection of parents,
+ * tree or not, adds up fewer cells. Where one rises it is 0, and the tree of campaign_plan_make adds
+ * up fewer. How the axes are divided plays no part. Refusals 3 to 6, 8, 9, as of every function that
+ * takes a plan.
+ */
 static inline uint8_t campaign_plan_price(const struct campaign_rack_plan *plan,
                                           struct campaign_prices *prices)
 {
@@ -293,6 +301,7 @@ static inline uint8_t campaign_plan_price(const struct campaign_rack_plan *plan,
         prices->moved = cells[0];
         prices->added = cells[1];
         prices->share = cells[2];
+        prices->fewest = cells[3];
     }
     return refusal;
 }

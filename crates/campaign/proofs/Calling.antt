@@ -31,7 +31,7 @@ use Rattle.controller.specs.declared.types.Asked.{Asked}
 use Rattle.controller.specs.Bytes.{askedChecks, askedRefusal, asking}
 use Rattle.controller.proofs.Pairing as pairing
 use Rattle.campaign_slices.specs.Lent.{lentRefusal, writtenOr}
-use Rattle.campaign_slices.specs.Racks.{planFrom, bytesOf, cellsTold, cellsPlanned}
+use Rattle.campaign_slices.specs.Racks.{planFrom, bytesOf, cellsTold, cellsPriced}
 use Rattle.campaign_slices.proofs.Racking as racking
 use Rattle.campaign_slices.proofs.Lending as lending
 use Rattle.campaign.specs.Calls.{wrongSlices, makeRefusal, made, madeOr, making, readBack, idleRefusal, idling, runRefusal, ran, ranOr, running, cellsPart, partRefusal, parting}
@@ -81,11 +81,11 @@ module _ (ds : List ℕ) (p : ℕ) (small slots cells : List ℕ) where
           wrong-cells l = wrong (rw (eq-eqb (length small) 18 s, eq-eqb (length slots) 8 t, ne-eqb (length cells) 4 l) refl)
 
           pub make-given : length cells ≡ 4 → (r : ℕ) (a b c : List ℕ) → a ≡ bytesOf (f .plan) → b ≡ f .plan .lengths
-              → r ≡ lentRefusal [] 4 (length cells) → c ≡ writtenOr r (cellsPlanned (f .prices) (f .idle)) cells → made r a b c ≡ making ds p small slots cells
+              → r ≡ lentRefusal [] 4 (length cells) → c ≡ writtenOr r (cellsPriced (f .prices) (f .idle)) cells → made r a b c ≡ making ds p small slots cells
           unfolding making madeOr wrongSlices lentRefusal writtenOr first
           make-given l r a b c ea eb er ec =
               let z : r ≡ 0 = er ∙ rw (eq-eqb (length cells) 4 l) refl in
-              let k : c ≡ cellsPlanned (f .prices) (f .idle) = rw z at ec in
+              let k : c ≡ cellsPriced (f .prices) (f .idle) = rw z at ec in
               let w : wrongSlices (length small) (length slots) (length cells) ≡ false = rw (eq-eqb (length small) 18 s, eq-eqb (length slots) 8 t, eq-eqb (length cells) 4 l) refl in
               let d = due-is false w in
               rw (z, ea, eb, k, e) (ap (λ n. madeOr n (planning ds p) small slots cells) d)
@@ -184,7 +184,7 @@ granted checks more z =
 
 -- a plan, its prices and the idle boards put in slices and read back
 back : (q : Plan) (c : Prices) (i : ℕ) (q′ : Plan) (c′ : Prices) (i′ : ℕ) → planFrom (bytesOf q) (q .lengths) ≡ q′ → c ≡ c′ → i ≡ i′
-    → readBack (bytesOf q) (q .lengths) (cellsPlanned c i) ≡ record { refusal = 0; plan = q′; prices = c′; idle = i′ }
+    → readBack (bytesOf q) (q .lengths) (cellsPriced c i) ≡ record { refusal = 0; plan = q′; prices = c′; idle = i′ }
 unfolding readBack
 back q c i q′ c′ i′ e f g = (λ j. record { refusal = 0; plan = e j; prices = f j; idle = g j })
 

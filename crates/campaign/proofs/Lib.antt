@@ -1,4 +1,5 @@
 pub mod Best
 pub mod Calling
 pub mod Cases
+pub mod Marking
 pub mod Retired

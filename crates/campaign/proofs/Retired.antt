@@ -35,7 +35,7 @@ never-idle bytes p lent = never-lent (askedChecks bytes p) 1 lent refl
 
 pub never-price : (q : Plan) (lent : ℕ) → priceRefusal q lent ≡ 7 → ⊥
 unfolding priceRefusal planChecks lengthChecks lacks
-never-price q lent = never-lent (planChecks q) 3 lent refl
+never-price q lent = never-lent (planChecks q) 4 lent refl
 
 -- ---- T, the step at a position, held
 

@@ -18,7 +18,7 @@ use Rattle.run_view.specs.declared.types.Part.{Part}
 use Rattle.run_view.specs.Places.{partOf}
 use Rattle.controller.specs.Bytes.{pairs, askedChecks}
 use Rattle.campaign_slices.specs.Lent.{lentRefusal, writtenOr}
-use Rattle.campaign_slices.specs.Racks.{planFrom, bytesOf, cellsTold, cellsPlanned}
+use Rattle.campaign_slices.specs.Racks.{planFrom, bytesOf, cellsTold, cellsPriced}
 
 -- ---- planning: lengths, p, two slices for the plan and one for its prices and the idle boards
 
@@ -41,7 +41,7 @@ made n small slots cells = record { answer = n; small = small; slots = slots; ce
 
 -- the planner's plan, its prices and the idle boards, or all as it was
 unfoldable pub madeOr : ℕ → Planned → List ℕ → List ℕ → List ℕ → Made
-madeOr zero a small slots cells = made 0 (bytesOf (a .plan)) (a .plan .lengths) (cellsPlanned (a .prices) (a .idle))
+madeOr zero a small slots cells = made 0 (bytesOf (a .plan)) (a .plan .lengths) (cellsPriced (a .prices) (a .idle))
 madeOr (suc n) a small slots cells = made (suc n) small slots cells
 
 unfoldable pub making : List ℕ → ℕ → List ℕ → List ℕ → List ℕ → Made

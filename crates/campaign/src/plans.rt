@@ -5,9 +5,9 @@ ghost use Rattle.controller.specs.Bytes.{controllerRefusal, written};
 ghost use Rattle.campaign_slices.specs.Racks.{planFrom, priceRefusal, priced};
 ghost use Rattle.campaign.specs.Calls.{idleRefusal, idling, made, making};
 use campaign_slices::plan_from;
+use campaign_slices::put_marked;
 use campaign_slices::put_number;
 use campaign_slices::put_plan;
-use campaign_slices::put_planned;
 use campaign_slices::put_prices;
 use controller::asked;
 use plan_entry::planning::plan;
@@ -65,17 +65,17 @@ pub extern "C" fn campaign_make(
     let planned = found.plan;
     let cost = found.prices;
     put_plan(small, slots, planned);
-    put_planned(cells, cost, found.idle)
+    put_prices(cells, cost, found.idle as u64)
 }
 
-// Pricing: three cells get the values moved, the cells added up and A.
+// Pricing: four cells get the values moved, the cells added up, A and the mark, 1 where no way adds up fewer cells, else 0.
 #[no_mangle]
 pub extern "C" fn campaign_price(small: &[u8], lengths: &[u32], prices: &mut [u64]) -> u8
     ensures { λ r. ⌜ (r ≡ priceRefusal (planFrom (now (small .entry)) (now (lengths .entry))) (length (now (prices .entry))))
         × (now (prices .exit) ≡ priced (planFrom (now (small .entry)) (now (lengths .entry))) (now (prices .entry))) ⌝ }
 {
     match price(plan_from(small, lengths)) {
-        Priced::Given(cost) => put_prices(prices, cost),
+        Priced::Given(marked) => put_marked(prices, marked),
         Priced::Refused(n) => n,
     }
 }

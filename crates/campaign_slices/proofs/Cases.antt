@@ -17,7 +17,7 @@ plan axes p order exponents lengths = planFrom (axes ∷ p ∷ (order ++ exponen
 abbrev small : Plan
 small = plan 2 1 (slots 1 0) (slots 0 1) (slots 3 5)
 
--- T; each step, and done at T; its prices; the plan's bytes again; what the two boards hold after the first step and at the end
+-- T; each step, and done at T; its prices and its mark, and those of the order that rises; the plan's bytes again; what the two boards hold after the first step and at the end
 steps : (counted small (9 ∷ []) ≡ (6 ∷ []))
     × (steppedAt small 0 (replicate 5 9) ≡ (1 ∷ 0 ∷ 0 ∷ 3 ∷ 0 ∷ []))
     × (steppedAt small 1 (replicate 5 9) ≡ (3 ∷ 0 ∷ 0 ∷ 2 ∷ 0 ∷ []))
@@ -26,13 +26,14 @@ steps : (counted small (9 ∷ []) ≡ (6 ∷ []))
     × (steppedAt small 4 (replicate 5 9) ≡ (3 ∷ 0 ∷ 0 ∷ 0 ∷ 0 ∷ []))
     × (steppedAt small 5 (replicate 5 9) ≡ (3 ∷ 0 ∷ 0 ∷ 1 ∷ 0 ∷ []))
     × (steppedAt small 6 (replicate 5 9) ≡ (4 ∷ 0 ∷ 0 ∷ 0 ∷ 0 ∷ []))
-    × (priced small (replicate 3 9) ≡ (3 ∷ 33 ∷ 6 ∷ []))
+    × (priced small (replicate 4 9) ≡ (3 ∷ 33 ∷ 6 ∷ 1 ∷ []))
+    × (priced (plan 2 1 (slots 0 1) (slots 0 1) (slots 3 5)) (replicate 4 9) ≡ (4 ∷ 35 ∷ 6 ∷ 0 ∷ []))
     × (bytesOf small ≡ (2 ∷ 1 ∷ (slots 1 0 ++ slots 0 1)))
     × (held small 1 0 (9 ∷ []) ≡ (5 ∷ []))
     × (held small 1 1 (9 ∷ []) ≡ (6 ∷ []))
     × (held small 6 0 (9 ∷ []) ≡ (0 ∷ []))
 unfolding computing
-steps = (refl, refl, refl, refl, refl, refl, refl, refl, refl, refl, refl, refl, refl)
+steps = (refl, refl, refl, refl, refl, refl, refl, refl, refl, refl, refl, refl, refl, refl)
 
 -- a byte too few, a length too many; nine axes; a length of 0; too many points; p over 10; an axis named twice, a slot that is used; exponents that do
 -- not sum to p; the position past T, the board past the last, both before the slice; a slice too long, too short; none
@@ -50,12 +51,13 @@ refused : (countRefusal (planFrom (replicate 17 1) (slots 2 3)) 1 ≡ 3)
     × (holdRefusal small 6 1 2 ≡ 13)
     × (atRefusal small 0 4 ≡ 13)
     × (countRefusal small 0 ≡ 13)
-    × (priceRefusal small 2 ≡ 13)
+    × (priceRefusal small 3 ≡ 13)
+    × (priceRefusal small 4 ≡ 0)
     × (atRefusal small 6 5 ≡ 0)
     × (atRefusal small 7 4 ≡ 12)
     × (countRefusal small 1 ≡ 0)
 unfolding computing
-refused = (refl, refl, refl, refl, refl, refl, refl, refl, refl, refl, refl, refl, refl, refl, refl, refl, refl, refl)
+refused = (refl, refl, refl, refl, refl, refl, refl, refl, refl, refl, refl, refl, refl, refl, refl, refl, refl, refl, refl)
 
 -- a refusal leaves the lent slice as it was
 left : (counted small (7 ∷ 8 ∷ []) ≡ (7 ∷ 8 ∷ [])) × (steppedAt small 0 (7 ∷ 8 ∷ []) ≡ (7 ∷ 8 ∷ [])) × (held small 7 0 (7 ∷ []) ≡ (7 ∷ []))

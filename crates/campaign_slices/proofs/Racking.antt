@@ -1,28 +1,36 @@
 -- Laws of the rack's cells, of the plan in two slices and of the refusals.
-use Prim.Native.Nat.{ℕ, zero, suc, _+_, _≤_, _<_}
-use mathlib.Core.Path.{_≡_, refl, sym, ap, _∙_}
+use Prim.Native.Nat.{ℕ, suc, _+_, _≤_, _<_}
+use mathlib.Core.Path.{_≡_, refl, sym, ap, subst, _∙_}
 use mathlib.Core.List.{List, [], _∷_, _++_, append-nil}
 use native.Mathlib.Omega.{arith}
-use borrow.Author.Tests.{eq-eqb, ne-eqb, lt-ltb, le-ltb}
+use borrow.Author.Tests.{eqb-true, eqb-false, eq-eqb, ne-eqb, lt-ltb, le-ltb}
+use lib.Dec.{eqb}
 use lib.ListN.{length, take, drop, set, getD, length-drop, length-append, length-set, drop-of-length-le}
 use lib.Seq.{sets, sets-eq, length-sets, take-all, length-take-le, getD-drop, take-append-seam, drop-append-seam}
-use Rattle.cube_spec.specs.Checks.{check, first, gives, refuses, answered}
-use Rattle.cube_spec.proofs.Naturals.{impossible}
+use Rattle.cube_spec.specs.Limits.{axisLimit}
+use Rattle.cube_spec.specs.Checks.{check, first, gives, refuses}
+use Rattle.cube_spec.proofs.Sums.{by}
 use Rattle.cube_spec.proofs.Dues.{Numbered}
+use Rattle.cube_spec.proofs.Slots.{padded-length}
 use Rattle.cube_spec.proofs.Stores.{joined, next}
 use Rattle.plan_spec.specs.declared.types.Plan.{Plan}
-use Rattle.plan_spec.specs.declared.types.Prices.{Prices}
-use Rattle.plan_spec.specs.Plans.{stepCount, listsOf}
+use Rattle.plan_spec.specs.declared.types.Marked.{Marked}
+use Rattle.plan_spec.specs.Plans.{stepCount, listsOf, slotted}
 use Rattle.plan_spec.specs.Refusals.{planChecks, lengthChecks, planRefusal}
-use Rattle.plan_spec.specs.Answers.{pricesOf, pricing}
+use Rattle.plan_spec.specs.Answers.{markedOf, pricing}
+use Rattle.plan_spec.proofs.PricingLaws.{given-is, refused-is}
 use Rattle.rack_spec.specs.Steps.{steps}
 use Rattle.rack_spec.proofs.Refusing.{plan-numbered, plan-due, plan-passed}
 use Rattle.rack_spec.specs.Held as Held
 use Rattle.rack_spec.specs.Finding.{planGrid}
 use Rattle.rack_spec.specs.Answers.{Told, toldAt, pastEnd, heldChecks, heldRefusal, holding, counting}
 use Rattle.campaign_slices.specs.Lent.{lentRefusal, writtenOr}
-use Rattle.campaign_slices.specs.Racks.{noPlan, planFrom, bytesOf, priceRefusal, countRefusal, atChecks, atRefusal, holdRefusal, cellsTold, cellsPriced, priced, counted, steppedAt, held}
+use Rattle.campaign_slices.specs.Racks.{noPlan, planFrom, bytesOf, priceRefusal, countRefusal, atChecks, atRefusal, holdRefusal, cellsTold, cellsPriced, markCell, priced, counted, steppedAt, held}
 use Rattle.campaign_slices.proofs.Lending.{refused, passed}
+
+-- the arrays of a plan have their slots
+abbrev pub HasSlots : Plan → Type 0
+HasSlots q = (length (q .lengths) ≡ axisLimit) × ((length (q .order) ≡ axisLimit) × (length (q .exponents) ≡ axisLimit))
 
 -- ---- copies
 
@@ -58,6 +66,22 @@ module _ (small lengths : List ℕ) where
         → _≡_ {A = Plan} (record { axes = getD small 0 0; p = getD small 1 0; lengths = l; order = o; exponents = e }) (planFrom small lengths)
     unfolding planFrom
     plan-is k l o e el eo ee = rw (eq-eqb (length small) 18 h, eq-eqb (length lengths) 8 k, el, eo, ee)
+
+-- whatever the slices, the plan's arrays have their slots
+pub from-slots : (small lengths : List ℕ) → HasSlots (planFrom small lengths)
+from-slots small lengths =
+    by (eqb (length small) 18)
+    (λ t. by (eqb (length lengths) 8) (λ u. both (eqb-true _ _ t) (eqb-true _ _ u)) (λ u. subst HasSlots (no-lengths small lengths (eqb-true _ _ t) (eqb-false _ _ u)) none))
+    (λ t. subst HasSlots (no-small small lengths (eqb-false _ _ t)) none)
+  where
+    none : HasSlots noPlan
+    none = unfold noPlan slotted in (padded-length [], (padded-length [], padded-length []))
+
+    both : length small ≡ 18 → length lengths ≡ 8 → HasSlots (planFrom small lengths)
+    both h k =
+        let d = length-drop 2 small in
+        let c = length-drop 10 small in
+        subst HasSlots (plan-is small lengths h k _ _ _ refl refl refl) (k, (length-take-le 8 (drop 2 small) (omega arith), length-take-le 8 (drop 10 small) (omega arith)))
 
 -- and back
 pub put-length : (s o e : List ℕ) (a b : ℕ) → length (sets (sets (set (set s 0 a) 1 b) 2 o) 10 e) ≡ length s
@@ -108,17 +132,6 @@ at-numbered : (q : Plan) (at : ℕ) → Numbered (atChecks q at)
 unfolding atChecks planChecks lengthChecks
 at-numbered q at = (omega arith, (omega arith, (omega arith, (omega arith, (omega arith, (omega arith, (omega arith, tt)))))))
 
--- what an answer says of the refusal
-given-is : {A : Type 0} (n : ℕ) (a v : A) → gives v ≡ answered n a → (n ≡ 0) × (v ≡ a)
-unfolding answered
-given-is zero a v e = (refl, cc)
-given-is (suc n) a v e = impossible (cc)
-
-refused-is : {A : Type 0} (n : ℕ) (a : A) (k : ℕ) → refuses k ≡ answered n a → (k ≡ n) × (k ≡ 0 → ⊥)
-unfolding answered
-refused-is zero a k e = impossible (cc)
-refused-is (suc n) a k e = let q : k ≡ suc n = cc in (q, λ z. omega arith)
-
 pub one-cell : (s : List ℕ) (n : ℕ) → length s ≡ 1 → set s 0 n ≡ n ∷ []
 one-cell [] n h = absurd (omega arith)
 one-cell (x ∷ []) n h = refl
@@ -155,15 +168,16 @@ module _ (g q : Plan) (e : g ≡ q) (s : List ℕ) where
   pub price-refused : (k : ℕ) → refuses k ≡ pricing g → (k ≡ priceRefusal q (length s)) × (s ≡ priced q s)
   unfolding pricing planRefusal priceRefusal priced
   price-refused k h =
-      let a = refused-is (first (planChecks q)) (pricesOf (listsOf q)) k (h ∙ ap pricing e) in
-      refused (planChecks q) 3 s k (a .0) (a .1) _
+      let a = refused-is (first (planChecks q)) (markedOf (listsOf q)) k (h ∙ ap pricing e) in
+      refused (planChecks q) 4 s k (a .0) (a .1) _
 
-  pub price-given : (r : ℕ) (w : List ℕ) (c : Prices) → gives c ≡ pricing g → r ≡ lentRefusal [] 3 (length s) → w ≡ writtenOr r (cellsPriced c) s
+  pub price-given : (r : ℕ) (w : List ℕ) (m : Marked) → gives m ≡ pricing g → r ≡ lentRefusal [] 4 (length s)
+      → w ≡ writtenOr r (cellsPriced (m .prices) (markCell (m .fewest))) s
       → (r ≡ priceRefusal q (length s)) × (w ≡ priced q s)
   unfolding pricing planRefusal priceRefusal priced
-  price-given r w c h er ew =
-      let a = given-is (first (planChecks q)) (pricesOf (listsOf q)) c (h ∙ ap pricing e) in
-      passed (planChecks q) 3 s (plan-numbered q) (a .0) r _ w er (ew ∙ ap (λ (x : Prices). writtenOr r (cellsPriced x) s) (a .1))
+  price-given r w m h er ew =
+      let a = given-is (first (planChecks q)) (markedOf (listsOf q)) m (h ∙ ap pricing e) in
+      passed (planChecks q) 4 s (plan-numbered q) (a .0) r _ w er (ew ∙ ap (λ (x : Marked). writtenOr r (cellsPriced (x .prices) (markCell (x .fewest))) s) (a .1))
 
   -- the step at a position: the plan's refusal, a position past the end, and one that is not
   module _ (at : ℕ) where

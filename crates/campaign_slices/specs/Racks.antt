@@ -1,6 +1,6 @@
 -- Prices, T, the step at a position and held as a caller in C gets them: the plan that two slices hold, the refusals, and the cells that are written.
 use Prim.Native.Nat.{ℕ}
-use mathlib.Core.Bool.{_&&_}
+use mathlib.Core.Bool.{Bool, _&&_}
 use mathlib.Core.List.{List, [], _∷_, _++_}
 use lib.Dec.{eqb}
 use lib.ListN.{length, getD, take, drop}
@@ -10,7 +10,7 @@ use Rattle.plan_spec.specs.declared.types.Plan.{Plan}
 use Rattle.plan_spec.specs.declared.types.Prices.{Prices}
 use Rattle.plan_spec.specs.Plans.{stepCount, listsOf, slotted}
 use Rattle.plan_spec.specs.Refusals.{planChecks}
-use Rattle.plan_spec.specs.Answers.{pricesOf}
+use Rattle.plan_spec.specs.Answers.{markedOf}
 use Rattle.rack_spec.specs.Steps.{steps}
 use Rattle.rack_spec.specs.Held as Held
 use Rattle.rack_spec.specs.Finding.{planGrid}
@@ -41,7 +41,7 @@ unfoldable pub countRefusal : Plan → ℕ → ℕ
 countRefusal q lent = lentRefusal (planChecks q) 1 lent
 
 unfoldable pub priceRefusal : Plan → ℕ → ℕ
-priceRefusal q lent = lentRefusal (planChecks q) 3 lent
+priceRefusal q lent = lentRefusal (planChecks q) 4 lent
 
 -- the step at a position: 3 to 6, 8, 9, and 12 for "The position is over T"
 unfoldable pub atChecks : Plan → ℕ → List Check
@@ -64,17 +64,19 @@ cellsTold done = 4 ∷ 0 ∷ 0 ∷ 0 ∷ 0 ∷ []
 -- never handed out: a refusal is the answer of a call, and no cell is written
 cellsTold (refused n) = 5 ∷ 0 ∷ 0 ∷ 0 ∷ n ∷ []
 
--- prices: the values moved, the cells added up, A
-abbrev pub cellsPriced : Prices → List ℕ
-cellsPriced c = c .moved ∷ c .added ∷ c .share ∷ []
+-- prices, the values moved, the cells added up and A, and what stands beside them: the idle boards of planning, the mark of pricing
+abbrev pub cellsPriced : Prices → ℕ → List ℕ
+cellsPriced c beside = c .moved ∷ c .added ∷ c .share ∷ beside ∷ []
 
--- what planning tells beside a plan: its prices, and the idle boards
-abbrev pub cellsPlanned : Prices → ℕ → List ℕ
-cellsPlanned c idle = c .moved ∷ c .added ∷ c .share ∷ idle ∷ []
+-- 1 for yes, 0 for no
+abbrev pub markCell : Bool → ℕ
+markCell mark = pick mark 1 0
 
 -- the lent slice afterwards: the cells, or as it was on a refusal
 unfoldable pub priced : Plan → List ℕ → List ℕ
-priced q out = writtenOr (priceRefusal q (length out)) (cellsPriced (pricesOf (listsOf q))) out
+priced q out =
+    let m = markedOf (listsOf q) in
+    writtenOr (priceRefusal q (length out)) (cellsPriced (m .prices) (markCell (m .fewest))) out
 
 unfoldable pub counted : Plan → List ℕ → List ℕ
 counted q out = writtenOr (countRefusal q (length out)) (stepCount (listsOf q) ∷ []) out

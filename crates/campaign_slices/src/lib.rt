@@ -8,7 +8,8 @@ ghost use lib.Seq.{sets};
 ghost use Rattle.rack_spec.specs.Answers.{told};
 ghost use Rattle.campaign_slices.specs.Lent.{lentRefusal, writtenOr};
 ghost use Rattle.campaign_slices.specs.Scans.{cells, cellsOf};
-ghost use Rattle.campaign_slices.specs.Racks.{noPlan, planFrom, bytesOf, cellsTold, cellsPriced, cellsPlanned};
+ghost use Rattle.campaign_slices.specs.Racks.{noPlan, planFrom, bytesOf, cellsTold, cellsPriced, markCell};
+use plan_spec::types::Marked;
 use plan_spec::types::Plan;
 use plan_spec::types::Prices;
 use rack_spec::types::Step;
@@ -188,24 +189,10 @@ pub fn put_plan(small: &mut [u8], lengths: &mut [u32], plan: Plan)
     put_lengths(lengths, slots);
 }
 
-// Puts prices in a slice of three cells.
-pub fn put_prices(out: &mut [u64], prices: Prices) -> u8
-    ensures { λ r. ⌜ (r ≡ lentRefusal [] 3 (length (now (out .entry))))
-        × (now (out .exit) ≡ writtenOr r (cellsPriced prices) (now (out .entry))) ⌝ }
-{
-    if out.len() != 3 {
-        return 13;
-    }
-    out[0] = prices.moved;
-    out[1] = prices.added;
-    out[2] = prices.share;
-    0
-}
-
-// Puts a plan's prices and the idle boards in a slice of four cells.
-pub fn put_planned(out: &mut [u64], prices: Prices, idle: u32) -> u8
+// Puts prices, and a number beside them, in a slice of four cells.
+pub fn put_prices(out: &mut [u64], prices: Prices, beside: u64) -> u8
     ensures { λ r. ⌜ (r ≡ lentRefusal [] 4 (length (now (out .entry))))
-        × (now (out .exit) ≡ writtenOr r (cellsPlanned prices idle) (now (out .entry))) ⌝ }
+        × (now (out .exit) ≡ writtenOr r (cellsPriced prices beside) (now (out .entry))) ⌝ }
 {
     if out.len() != 4 {
         return 13;
@@ -213,8 +200,20 @@ pub fn put_planned(out: &mut [u64], prices: Prices, idle: u32) -> u8
     out[0] = prices.moved;
     out[1] = prices.added;
     out[2] = prices.share;
-    out[3] = idle as u64;
+    out[3] = beside;
     0
+}
+
+// Puts prices and their mark in a slice of four cells: 1 for yes, 0 for no.
+pub fn put_marked(out: &mut [u64], marked: Marked) -> u8
+    ensures { λ r. ⌜ (r ≡ lentRefusal [] 4 (length (now (out .entry))))
+        × (now (out .exit) ≡ writtenOr r (cellsPriced (marked .prices) (markCell (marked .fewest))) (now (out .entry))) ⌝ }
+{
+    let prices = marked.prices;
+    if marked.fewest {
+        return put_prices(out, prices, 1);
+    }
+    put_prices(out, prices, 0)
 }
 
 // Puts two numbers in a slice of two cells.

@@ -1,6 +1,7 @@
 -- Demand 3 tied to the planner's own clause: whatever a call of `plan` returns with refusal 0 is best over the boards in use, and can be run (specs/Best).
 use Prim.Native.Nat.{ℕ, _+_, _^_, _≤_}
 use mathlib.Core.Path.{_≡_, sym, _∙_, refl, ap, subst}
+use mathlib.Core.Bool.{true}
 use mathlib.Core.List.{List}
 use denote.Ref.{now}
 use contract.Lifetimes.{Lfts}
@@ -18,11 +19,12 @@ use Rattle.plan_spec.specs.Accepted.{LengthsAccepted, PlanningAccepted}
 use Rattle.plan_spec.specs.Rule.{exponents, planOf, powerUsed, planWithin, idleBoards}
 use Rattle.plan_spec.specs.Trees.{lastSummed, treeAxis}
 use Rattle.plan_spec.specs.Refusals.{planningRefusal, planRefusal}
-use Rattle.plan_spec.specs.Answers.{pricesOf, pricing, planning}
+use Rattle.plan_spec.specs.Answers.{pricesOf, markedOf, pricing, planning}
 use Rattle.plan_spec.proofs.Accepting.{planning-accept, planning-accepted, planned-accepted, lists-slotted}
 use Rattle.plan_spec.proofs.Answering.{refusal-of, plan-of, prices-of, idle-of}
 use Rattle.plan_spec.proofs.Unaltered.{idle-used, used-greatest}
 use Rattle.plan_spec.proofs.PricingLaws.{answer-given}
+use Rattle.plan_spec.proofs.Marking.{planned-yes}
 use Rattle.plan_spec.proofs.Demand.{demand, plan-sound}
 use Rattle.rack_spec.specs.Grids.{gridOf, maskOf, summed}
 use Rattle.rack_spec.specs.Pointed.{HasPoint}
@@ -42,9 +44,9 @@ module _ (l : List ℕ) (p : ℕ) (ok : PlanningAccepted l p) where
   axis-planned : (mask : ℕ) → treeAxis l mask ≡ lastSummed (keeps mask) 0 (listsOf (slotted (planOf l p)) .order)
   axis-planned mask = rw lists-planned (unfold planOf treeAxis in refl)
 
-  priced-planned : planRefusal (slotted (planOf l p)) ≡ 0 → pricing (slotted (planOf l p)) ≡ gives (pricesOf (planOf l p))
-  unfolding pricing
-  priced-planned e = rw lists-planned (sym (answer-given (planRefusal (slotted (planOf l p))) (pricesOf (planOf l p)) e))
+  priced-planned : planRefusal (slotted (planOf l p)) ≡ 0 → pricing (slotted (planOf l p)) ≡ gives (record { prices = pricesOf (planOf l p); fewest = true })
+  unfolding pricing markedOf
+  priced-planned e = rw (← planned-yes l p, lists-planned) (sym (answer-given (planRefusal (slotted (planOf l p))) (markedOf (planOf l p)) e))
 
 lengths-of : (l : List ℕ) (p : ℕ) → planOf l p .lengths ≡ l
 unfolding planOf

@@ -2,6 +2,7 @@
 -- and the tree and the exponents of the returned plan move and add just that.
 use Prim.Native.Nat.{ℕ, _≤_, _<_}
 use mathlib.Core.Path.{_≡_}
+use mathlib.Core.Bool.{true}
 use mathlib.Core.List.{List}
 use lib.ListN.{length}
 use Rattle.cube_spec.specs.Checks.{gives}
@@ -34,8 +35,8 @@ pub record Best (l : List ℕ) (p : ℕ) (r : Planned) : Type 0 where
   pub points : (b : ℕ) → HasPoint (gridOf (listsOf (r .plan))) b
   pub moves : movedBy l division way ≡ r .prices .moved
   pub adds : addedBy l way ≡ r .prices .added
-  -- pricing gives the returned plan the same prices
-  pub priced : pricing (r .plan) ≡ gives (r .prices)
+  -- pricing gives the returned plan the same prices, and the mark "fewest cells added up"
+  pub priced : pricing (r .plan) ≡ gives (record { prices = r .prices; fewest = true })
 
 -- "Any lawful plan can be priced and run.": the returned plan passes every check, and its prices are its own
 pub record Runnable (l : List ℕ) (p : ℕ) (r : Planned) : Type 0 where

@@ -1,15 +1,17 @@
 ghost use mathlib.Core.Path.{_≡_};
 ghost use Prim.Native.Nat.{_-_, _^_, _≤_, _<_};
-ghost use Rattle.cube_spec.specs.Limits.{powerLimit};
+ghost use Rattle.cube_spec.specs.Limits.{axisLimit, powerLimit};
+ghost use Rattle.cube_spec.specs.Choices.{lengthOf};
 ghost use Rattle.cube_spec.specs.Tree.{sent};
 ghost use Rattle.plan_spec.specs.Plans.{listsOf};
 ghost use Rattle.plan_spec.specs.Refusals.{planRefusal};
-ghost use Rattle.plan_spec.specs.Answers.{pricesOf, pricedReply, pricing};
+ghost use Rattle.plan_spec.specs.Answers.{pricesOf, neverRise, fewestAdded, pricedReply, pricing};
 ghost use Rattle.plan_spec.specs.Pricing.{movedFrom, addedFrom, Undecided};
 use plan_check::plan_refusal;
 use plan_order::in_order;
 use plan_region::exponents_along;
 use plan_region::regions_to;
+use plan_spec::types::Marked;
 use plan_spec::types::Plan;
 use plan_spec::types::Priced;
 use plan_spec::types::Prices;
@@ -80,7 +82,34 @@ pub fn prices(plan: Plan) -> Prices
     }
 }
 
-// The public entry: a plan's prices, or its refusal.
+// Do n lengths never rise?
+fn never_rise(lengths: [u32; 8], n: usize) -> bool
+    requires { ⌜ n ≤ axisLimit ⌝ }
+    ensures { λ r. ⌜ r ≡ neverRise n (lengthOf lengths) ⌝ }
+{
+    let mut i: usize = 0;
+    while i + 1 < n {
+        if lengths[i] < lengths[i + 1] {
+            return false;
+        }
+        i += 1;
+    }
+    true
+}
+
+// Has a plan that no check refuses the fewest cells added up? It has, where lengths never rise along its order.
+fn fewest(plan: Plan) -> bool
+    requires { ⌜ planRefusal plan ≡ 0 ⌝ }
+    ensures { λ r. ⌜ r ≡ fewestAdded (listsOf plan) ⌝ }
+{
+    let n = plan.axes as usize;
+    let by_axis = plan.lengths;
+    let order = plan.order;
+    let lengths = in_order(by_axis, order, n);
+    never_rise(lengths, n)
+}
+
+// The public entry: a plan's prices with its mark, or its refusal.
 pub fn price(plan: Plan) -> Priced
     ensures { λ r. ⌜ pricedReply r ≡ pricing plan ⌝ }
 {
@@ -88,5 +117,8 @@ pub fn price(plan: Plan) -> Priced
     if refusal != 0 {
         return Priced::Refused(refusal);
     }
-    Priced::Given(prices(plan))
+    Priced::Given(Marked {
+        prices: prices(plan),
+        fewest: fewest(plan),
+    })
 }

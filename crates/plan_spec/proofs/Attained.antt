@@ -1,4 +1,4 @@
--- The planner's tree and exponents are a way and a division; so the least is attained.
+-- The tree of any order is a way; the planner's tree and exponents are a way and a division, so the least is attained.
 use Prim.Native.Nat.{ℕ, zero, suc, _+_, _*_, _^_, _≤_, _<_, min}
 use mathlib.Core.Path.{_≡_, _∙_, ap, ap₂, sym, refl, fun-ext}
 use mathlib.Core.Bool.{Bool, true, false}
@@ -19,12 +19,13 @@ use Rattle.cube_spec.proofs.Tables.{table-length, table-of}
 use Rattle.cube_spec.proofs.Axes.{Axis, lens, keys, tree, axis, axes-same, lens-length, lens-table, keys-table, moved-tree, added-tree}
 use Rattle.plan_spec.specs.Plans as Plans
 use Rattle.plan_spec.specs.Plans.{count, find, exponentAt}
-use Rattle.plan_spec.specs.Rule.{Typed, numbered, sort, numbers, order, orderedLength, exponents, planOf}
+use Rattle.plan_spec.specs.Rule.{Typed, numbered, numbers, order, orderedLength, exponents, planOf}
 use Rattle.plan_spec.specs.Trees.{lastSummed, treeAxis}
 use Rattle.plan_spec.proofs.Orders.{find-lt, get-find}
-use Rattle.plan_spec.proofs.Sorted.{lengths, ordered, sorted, largest, sorted-falls, Falls, falls-more, numbered-lengths, ordered-sorted}
-use Rattle.plan_spec.proofs.Shuffled.{Shuffled, same, under, swap, then, sort-shuffled, All}
-use Rattle.plan_spec.proofs.Places.{sort-length, order-length, order-once, ordered-length, ordered-table, all-at, all-sorted}
+use Rattle.plan_spec.proofs.Sorted.{lengths, sorted, largest, sorted-falls, Falls, falls-more, numbered-lengths, ordered-sorted}
+use Rattle.plan_spec.proofs.Shuffled.{Shuffled, same, under, swap, then, All}
+use Rattle.plan_spec.proofs.Places.{order-length, order-once, ordered-length, ordered-table, all-at, all-along}
+use Rattle.plan_spec.proofs.Named.{named, named-length, named-numbers, planner-shuffled}
 use Rattle.plan_spec.proofs.Cost.{lower, lower-swap, rate, cost, cost-swap, falling-tree, Fits}
 use Rattle.plan_spec.proofs.Ways.{leastKey, cheapest, cost-below}
 use Rattle.plan_spec.proofs.Ranked.{exponents-fall}
@@ -35,11 +36,11 @@ use Rattle.plan_spec.proofs.Tools.{bool-cases, add-same}
 -- ---- a key for each axis number
 
 -- the keys of typed axes, and the axes with them
-each : (ℕ → ℕ) → List Typed → List ℕ
+unfoldable pub each : (ℕ → ℕ) → List Typed → List ℕ
 each e [] = []
 each e (t ∷ r) = e (t .num) ∷ each e r
 
-keyed : (ℕ → ℕ) → List Typed → List Axis
+unfoldable pub keyed : (ℕ → ℕ) → List Typed → List Axis
 keyed e [] = []
 keyed e (t ∷ r) = record { len = t .len; key = e (t .num) } ∷ keyed e r
 
@@ -48,12 +49,12 @@ unfolding keyed lens lengths
 keyed-lens e [] = refl
 keyed-lens e (t ∷ r) = ap (λ (x : List ℕ). t .len ∷ x) (keyed-lens e r)
 
-keyed-keys : (e : ℕ → ℕ) (l : List Typed) → keys (keyed e l) ≡ each e l
+pub keyed-keys : (e : ℕ → ℕ) (l : List Typed) → keys (keyed e l) ≡ each e l
 unfolding keyed keys each
 keyed-keys e [] = refl
 keyed-keys e (t ∷ r) = ap (λ (x : List ℕ). e (t .num) ∷ x) (keyed-keys e r)
 
-cost-shuffled : (price e : ℕ → ℕ) {l s : List Typed} → Shuffled l s → (m : Option ℕ) (c : ℕ) → cost price m c (keyed e l) ≡ cost price m c (keyed e s)
+pub cost-shuffled : (price e : ℕ → ℕ) {l s : List Typed} → Shuffled l s → (m : Option ℕ) (c : ℕ) → cost price m c (keyed e l) ≡ cost price m c (keyed e s)
 unfolding keyed cost
 cost-shuffled price e (same l) m c = refl
 cost-shuffled price e (under a s) m c = add-same (cost-shuffled price e s m _) (cost-shuffled price e s _ c)
@@ -83,17 +84,25 @@ each-at e [] i h = absurd (omega arith)
 each-at e (t ∷ r) zero h = refl
 each-at e (t ∷ r) (suc i) h = each-at e r i (omega arith)
 
-module _ (e : ℕ → ℕ) (ds : List ℕ) where
-  -- along the planner's order
-  each-sorted : each e (sort (numbered 0 ds)) ≡ table (length ds) (λ i. e (getD (order ds) i 0))
-  unfolding order
-  each-sorted =
-      table-of (length ds) _ (each e (sort (numbered 0 ds))) 0 (each-length e (sort (numbered 0 ds)) ∙ sort-length ds) (λ i l. each-at e (sort (numbered 0 ds)) i (rw (sort-length ds) l))
+lengths-along : (len : ℕ → ℕ) (o : List ℕ) → lengths (named len o) ≡ each len (named len o)
+unfolding lengths named each
+lengths-along len [] = refl
+lengths-along len (a ∷ o) = ap (λ (x : List ℕ). len a ∷ x) (lengths-along len o)
 
-  keyed-sorted : keyed e (sort (numbered 0 ds)) ≡ table (length ds) (axis (orderedLength ds) (λ i. e (getD (order ds) i 0)))
-  unfolding ordered
-  keyed-sorted =
-      axes-same _ _ (keyed-lens e (sort (numbered 0 ds)) ∙ ordered-table ds ∙ sym (lens-table (orderedLength ds) (λ i. e (getD (order ds) i 0)) (length ds) 0)) (keyed-keys e (sort (numbered 0 ds)) ∙ each-sorted ∙ sym (keys-table (orderedLength ds) (λ i. e (getD (order ds) i 0)) (length ds) 0))
+module _ (len : ℕ → ℕ) (o : List ℕ) where
+  -- along an order, by place
+  pub each-along : (e : ℕ → ℕ) → each e (named len o) ≡ table (length o) (λ i. e (getD o i 0))
+  each-along e =
+      table-of (length o) _ (each e (named len o)) 0 (each-length e (named len o) ∙ named-length len o)
+      (λ i l. rw (named-numbers len o) at (each-at e (named len o) i (rw (named-length len o) l)))
+
+  pub keyed-along : (e : ℕ → ℕ) → keyed e (named len o) ≡ table (length o) (axis (λ i. len (getD o i 0)) (λ i. e (getD o i 0)))
+  keyed-along e =
+      let l : ℕ → ℕ = λ i. len (getD o i 0) in
+      let k : ℕ → ℕ = λ i. e (getD o i 0) in
+      axes-same _ _
+      (keyed-lens e (named len o) ∙ lengths-along len o ∙ each-along len ∙ sym (lens-table l k (length o) 0))
+      (keyed-keys e (named len o) ∙ each-along e ∙ sym (keys-table l k (length o) 0))
 
 -- ---- the last axis summed
 
@@ -121,19 +130,6 @@ unfolding some-summed All
 none-summed kept [] h = tt
 none-summed kept (t ∷ r) h =
     by (kept (t .num)) (λ q. (q, none-summed kept r (rw q at h))) (λ q. impossible (let z : true ≡ false = (rw q at h) in cc))
-
--- a choice below the full one sums some axis
-below-some : (ds : List ℕ) (mask : ℕ) → mask < fullMask (length ds) → some-summed (keeps mask) (sort (numbered 0 ds)) ≡ true
-unfolding fullMask
-below-some ds mask h =
-    some-shuffled (keeps mask) (sort-shuffled (numbered 0 ds)) ∙ by (some-summed (keeps mask) (numbered 0 ds)) (λ t. t) (λ t. absurd (all t))
-  where
-    all : some-summed (keeps mask) (numbered 0 ds) ≡ false → ⊥
-    all t =
-        let a = all-at (λ d x. keeps mask d ≡ true) 0 ds (none-summed (keeps mask) (numbered 0 ds) t) in
-        let p = pow-pos (length ds) in
-        let q = all-kept (length ds) mask (omega arith) (λ d l. rw (zero-add d) at (a d l)) in
-        unfold fullMask in omega arith
 
 -- the last axis summed is summed, if there is one
 last-keeps : (kept : ℕ → Bool) (i : ℕ) (l : List Typed) → kept i ≡ false → kept (lastSummed kept i (numbers l)) ≡ false
@@ -205,52 +201,75 @@ first-least kept e b i (t ∷ r) f =
     → least-summed kept e (pick x none (some (e (t .num)))) r ≡ some (e (lastSummed kept (pick x i (t .num)) (numbers r))))
     (kept (t .num)) (λ q. first-least kept e (e (t .num)) i r (f .1)) (λ q h. last-least kept e (t .num) r (f .1))
 
--- ---- the tree is a way
+-- ---- the tree of an order is a way
+
+some-axis : (n mask : ℕ) → mask < fullMask n → 0 < n
+some-axis zero mask h = absurd (unfold fullMask in omega arith)
+some-axis (suc n) mask h = omega arith
+
+module _ (ds o : List ℕ) (s : Shuffled (named (lengthOf ds) o) (numbered 0 ds)) where
+  abbrev along : List Typed
+  along = named (lengthOf ds) o
+
+  -- a choice below the full one sums some axis
+  below-some : (mask : ℕ) → mask < fullMask (length ds) → some-summed (keeps mask) along ≡ true
+  unfolding fullMask
+  below-some mask h =
+      some-shuffled (keeps mask) s ∙ by (some-summed (keeps mask) (numbered 0 ds)) (λ t. t) (λ t. absurd (all t))
+    where
+      all : some-summed (keeps mask) (numbered 0 ds) ≡ false → ⊥
+      all t =
+          let a = all-at (λ d x. keeps mask d ≡ true) 0 ds (none-summed (keeps mask) (numbered 0 ds) t) in
+          let p = pow-pos (length ds) in
+          let q = all-kept (length ds) mask (omega arith) (λ d l. rw (zero-add d) at (a d l)) in
+          unfold fullMask in omega arith
+
+  pub order-way : Way (length ds)
+  order-way =
+      record {
+        axis = λ mask. lastSummed (keeps mask) 0 o;
+        within = λ mask h.
+            rw (named-numbers (lengthOf ds) o) at
+            (last-below (keeps mask) (length ds) 0 along (some-axis (length ds) mask h) (all-along (λ d x. d < length ds) ds s (λ d l. l)));
+        summed = λ mask h. rw (named-numbers (lengthOf ds) o) at (last-summed (keeps mask) 0 along (below-some mask h));
+      }
+
+  pub order-way-axis : (mask : ℕ) → order-way .axis mask ≡ lastSummed (keeps mask) 0 o
+  unfolding order-way
+  order-way-axis mask = refl
+
+  module _ (price e : ℕ → ℕ) (b : ℕ) (d : Falls b (each e along)) where
+    least-along : (mask : ℕ) → mask < fullMask (length ds) → leastKey none (keeps mask) (keyed e (numbered 0 ds)) ≡ some (e (lastSummed (keeps mask) 0 o))
+    least-along mask h =
+        let k = keeps mask in
+        let z : _≡_ {A = ℕ → Bool} k (λ d. k (0 + d)) = fun-ext (λ d. ap k (sym (zero-add d))) in
+        let f = rw (named-numbers (lengthOf ds) o) at (first-least k e b 0 along d (below-some mask h)) in
+        ap (λ (g : ℕ → Bool). leastKey none g (keyed e (numbered 0 ds))) z ∙ least-typed k e none 0 ds ∙ sym (least-shuffled k e s none) ∙ f
+
+    cheapest-along : (mask : ℕ) → mask < fullMask (length ds)
+        → cheapest price none 1 (keyed e (numbered 0 ds)) mask ≡ cells ds mask * price (e (lastSummed (keeps mask) 0 o))
+    unfolding cheapest rate
+    cheapest-along mask h = rw (keyed-lens e (numbered 0 ds), numbered-lengths 0 ds, one-mul, least-along mask h) refl
+
+    -- Where keys fall along the order, its tree is the cheapest way. `f` is what a choice costs by that way.
+    pub attained : (f : ℕ → ℕ) → price 0 ≡ 0 → ((mask : ℕ) → mask < fullMask (length ds) → f mask ≡ cells ds mask * price (e (lastSummed (keeps mask) 0 o)))
+        → sumN (fullMask (length ds)) f ≡ tree price 0 1 (keyed e along)
+    attained f z g =
+        let n = numbered 0 ds in
+        let l : lens (keyed e n) ≡ ds = keyed-lens e n ∙ numbered-lengths 0 ds in
+        let q : length (keyed e n) ≡ length ds = sym (lens-length (keyed e n)) ∙ ap length l in
+        let c : cost price none 1 (keyed e along) ≡ cost price none 1 (keyed e n) = cost-shuffled price e s none 1 in
+        let h : cost price none 1 (keyed e along) ≡ tree price 0 1 (keyed e along) = falling-tree price b 1 (keyed e along) z (rw keyed-keys d) in
+        rw (← h, c, cost-below, q) (sumN-cong (fullMask (length ds)) (λ mask r. g mask r ∙ sym (cheapest-along mask r)))
+
+-- ---- the planner's tree
 
 pub tree-way : (ds : List ℕ) → Way (length ds)
-unfolding treeAxis order
-tree-way ds =
-    record {
-      axis = treeAxis ds;
-      within = λ mask h.
-          last-below (keeps mask) (length ds) 0 (sort (numbered 0 ds)) (some-axis (length ds) mask h) (all-sorted (λ d x. d < length ds) ds (λ d l. l));
-      summed = λ mask h. last-summed (keeps mask) 0 (sort (numbered 0 ds)) (below-some ds mask h);
-    }
-  where
-    some-axis : (n mask : ℕ) → mask < fullMask n → 0 < n
-    some-axis zero mask h = absurd (unfold fullMask in omega arith)
-    some-axis (suc n) mask h = omega arith
+tree-way ds = order-way ds (order ds) (planner-shuffled ds)
 
 pub tree-way-axis : (ds : List ℕ) (mask : ℕ) → (tree-way ds) .axis mask ≡ treeAxis ds mask
-unfolding tree-way
+unfolding tree-way order-way treeAxis
 tree-way-axis ds mask = refl
-
-least-tree : (e : ℕ → ℕ) (b : ℕ) (ds : List ℕ) → Falls b (each e (sort (numbered 0 ds))) → (mask : ℕ) → mask < fullMask (length ds)
-    → leastKey none (keeps mask) (keyed e (numbered 0 ds)) ≡ some (e (treeAxis ds mask))
-unfolding treeAxis order
-least-tree e b ds d mask h =
-    let k = keeps mask in
-    let s : _≡_ {A = ℕ → Bool} k (λ d. k (0 + d)) = fun-ext (λ d. ap k (sym (zero-add d))) in
-    ap (λ (g : ℕ → Bool). leastKey none g (keyed e (numbered 0 ds))) s ∙ least-typed k e none 0 ds ∙ sym (least-shuffled k e (sort-shuffled (numbered 0 ds)) none)
-    ∙ first-least k e b 0 (sort (numbered 0 ds)) d (below-some ds mask h)
-
-cheapest-tree : (price e : ℕ → ℕ) (b : ℕ) (ds : List ℕ) → Falls b (each e (sort (numbered 0 ds))) → (mask : ℕ) → mask < fullMask (length ds)
-    → cheapest price none 1 (keyed e (numbered 0 ds)) mask ≡ cells ds mask * price (e (treeAxis ds mask))
-unfolding cheapest rate
-cheapest-tree price e b ds d mask h = rw (keyed-lens e (numbered 0 ds), numbered-lengths 0 ds, one-mul, least-tree e b ds d mask h) refl
-
--- Where keys fall along the planner's order, its tree is the cheapest way. `f` is what a choice costs by that way.
-attained : (price e : ℕ → ℕ) (b : ℕ) (ds : List ℕ) (f : ℕ → ℕ) → price 0 ≡ 0 → Falls b (each e (sort (numbered 0 ds)))
-    → ((mask : ℕ) → mask < fullMask (length ds) → f mask ≡ cells ds mask * price (e (treeAxis ds mask)))
-    → sumN (fullMask (length ds)) f ≡ tree price 0 1 (table (length ds) (axis (orderedLength ds) (λ i. e (getD (order ds) i 0))))
-attained price e b ds f z d g =
-    let n = numbered 0 ds in
-    let t = sort n in
-    let l : lens (keyed e n) ≡ ds = keyed-lens e n ∙ numbered-lengths 0 ds in
-    let s : length (keyed e n) ≡ length ds = sym (lens-length (keyed e n)) ∙ ap length l in
-    let c : cost price none 1 (keyed e t) ≡ cost price none 1 (keyed e n) = cost-shuffled price e (sort-shuffled n) none 1 in
-    let h : cost price none 1 (keyed e t) ≡ tree price 0 1 (keyed e t) = falling-tree price b 1 (keyed e t) z (rw keyed-keys d) in
-    rw (← keyed-sorted e ds, ← h, c, cost-below, s) (sumN-cong (fullMask (length ds)) (λ mask r. g mask r ∙ sym (cheapest-tree price e b ds d mask r)))
 
 -- ---- the exponents are a division
 
@@ -265,9 +284,9 @@ module _ (ds : List ℕ) (p : ℕ) where
   exponent : ℕ → ℕ
   exponent a = getD (exponents ds p) a 0
 
-  each-exponent : each exponent (sort (numbered 0 ds)) ≡ keys (planned ds p)
+  each-exponent : each exponent (named (lengthOf ds) (order ds)) ≡ keys (planned ds p)
   unfolding exponent planOf
-  each-exponent = each-sorted exponent ds ∙ sym (planned-keys ds p ∙ exponents-table ds p)
+  each-exponent = each-along (lengthOf ds) (order ds) exponent ∙ rw order-length (sym (planned-keys ds p ∙ exponents-table ds p))
 
   -- the exponents by axis number fit, and have the sum asked for, if any do
   exponent-fits : Division ds p → (a : ℕ) → a < length ds → 2 ^ getD (exponents ds p) a 0 ≤ lengthOf ds a
@@ -292,7 +311,7 @@ module _ (ds : List ℕ) (p : ℕ) where
         exponents = exponents ds p;
         each = exponents-each;
         fits = exponent-fits e;
-        sums = ap sumList exponents-numbered ∙ sym (sum-shuffled exponent (sort-shuffled (numbered 0 ds))) ∙ ap sumList each-exponent ∙ planned-sum ds p e;
+        sums = ap sumList exponents-numbered ∙ sym (sum-shuffled exponent (planner-shuffled ds)) ∙ ap sumList each-exponent ∙ planned-sum ds p e;
       }
 
   pub tree-division-exponents : (e : Division ds p) → (tree-division e) .exponents ≡ exponents ds p
@@ -301,15 +320,19 @@ module _ (ds : List ℕ) (p : ℕ) where
 
   -- the tree with the planner's exponents moves what the plan says
   pub moves-attained : (e : Division ds p) → movedBy ds (tree-division e) (tree-way ds) ≡ Plans.moved (planOf ds p)
-  unfolding movedBy costBy tree-way tree-division exponent planned Plans.moved planOf orderedLength
+  unfolding movedBy costBy tree-way order-way tree-division exponent planned Plans.moved planOf
   moves-attained e =
       let (b, d) = exponents-fall ds p in
-      attained sent exponent b ds _ sent-zero (rw each-exponent d) (λ mask h. mul-one _) ∙ sym (moved-tree (length ds) (orderedLength ds) (exponentAt (planOf ds p)))
+      attained ds (order ds) (planner-shuffled ds) sent exponent b (rw each-exponent d) _ sent-zero (λ mask h. mul-one _)
+      ∙ ap (tree sent 0 1) (keyed-along (lengthOf ds) (order ds) exponent)
+      ∙ rw order-length (sym (moved-tree (length ds) _ (exponentAt (planOf ds p))))
 
 -- and adds up what the plan says
 pub adds-attained : (ds : List ℕ) (p : ℕ) → addedBy ds (tree-way ds) ≡ Plans.added (planOf ds p)
-unfolding addedBy tree-way Plans.added planOf orderedLength
+unfolding addedBy tree-way order-way Plans.added planOf orderedLength
 adds-attained ds p =
-    let a : each (lengthOf ds) (sort (numbered 0 ds)) ≡ sorted ds = each-sorted (lengthOf ds) ds ∙ sym (ordered-table ds) ∙ ordered-sorted ds in
-    attained (λ k. k) (lengthOf ds) (largest ds) ds _ refl (rw a (sorted-falls ds)) (λ mask h. parent-cells ds mask _ ((tree-way ds) .within mask h) ((tree-way ds) .summed mask h))
-    ∙ sym (added-tree (length ds) (orderedLength ds))
+    let a : each (lengthOf ds) (named (lengthOf ds) (order ds)) ≡ sorted ds = each-along (lengthOf ds) (order ds) (lengthOf ds) ∙ rw order-length (sym (ordered-table ds) ∙ ordered-sorted ds) in
+    attained ds (order ds) (planner-shuffled ds) (λ k. k) (lengthOf ds) (largest ds) (rw a (sorted-falls ds)) _ refl
+    (λ mask h. parent-cells ds mask _ ((tree-way ds) .within mask h) ((tree-way ds) .summed mask h))
+    ∙ ap (tree (λ k. k) 0 1) (keyed-along (lengthOf ds) (order ds) (lengthOf ds))
+    ∙ rw order-length (sym (added-tree (length ds) _))

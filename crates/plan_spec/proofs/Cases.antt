@@ -1,18 +1,25 @@
 -- Planning, pricing and every refusal on small campaigns that are none of P1 to P10 (report_spec has those); the numbers are those of compare/.
 use Prim.Native.Nat.{ℕ}
 use mathlib.Core.Path.{_≡_, refl}
+use mathlib.Core.Bool.{Bool, true, false}
 use mathlib.Core.List.{List, [], _∷_}
 use lib.ListN.{replicate}
-use Rattle.cube_spec.specs.Checks.{gives, refuses}
+use Rattle.cube_spec.specs.Checks.{Reply, gives, refuses}
 use Rattle.plan_spec.specs.Computing.{computing}
 use Rattle.plan_spec.specs.declared.types.Plan.{Plan}
 use Rattle.plan_spec.specs.declared.types.Prices.{Prices}
+use Rattle.plan_spec.specs.declared.types.Marked.{Marked}
+use Rattle.plan_spec.specs.Plans.{slotted}
 use Rattle.plan_spec.specs.Answers.{pricing, planning}
 use Rattle.plan_spec.specs.Rule.{order, orderedExponents, powerUsed, idleBoards}
 use Rattle.plan_spec.specs.Refusals.{planningRefusal, planRefusal}
+use Rattle.plan_spec.proofs.Listed.{Row, one-axis, two-axes, three-axes, four-axes, not-strictly, not-by-axis-number, not-the-first-two, not-the-planners-alone, not-by-portions, eight-axes, divided-falling, divided-rising}
 
 abbrev prices : ℕ → ℕ → ℕ → Prices
 prices m a s = record { moved = m; added = a; share = s }
+
+abbrev marked : ℕ → ℕ → ℕ → Bool → Marked
+marked m a s f = record { prices = prices m a s; fewest = f }
 
 abbrev lent : ℕ → List ℕ → List ℕ → List ℕ → ℕ → Plan
 lent n ds o ks p = record { axes = n; lengths = ds; order = o; exponents = ks; p = p }
@@ -106,8 +113,36 @@ planned-cases : (planning (2 ∷ 7 ∷ 4 ∷ []) 3 ≡ record { refusal = 0; pla
 unfolding computing
 planned-cases = (refl, refl, refl)
 
-priced-cases : (pricing (lent 2 (6 ∷ 2 ∷ replicate 6 0) (0 ∷ 1 ∷ replicate 6 0) (0 ∷ 1 ∷ replicate 6 0) 1) ≡ gives (prices 7 26 7))
-    × (pricing (lent 2 (6 ∷ 2 ∷ replicate 6 0) (1 ∷ 0 ∷ replicate 6 0) (0 ∷ 1 ∷ replicate 6 0) 1) ≡ gives (prices 6 30 7))
+priced-cases : (pricing (lent 2 (6 ∷ 2 ∷ replicate 6 0) (0 ∷ 1 ∷ replicate 6 0) (0 ∷ 1 ∷ replicate 6 0) 1) ≡ gives (marked 7 26 7 true))
+    × (pricing (lent 2 (6 ∷ 2 ∷ replicate 6 0) (1 ∷ 0 ∷ replicate 6 0) (0 ∷ 1 ∷ replicate 6 0) 1) ≡ gives (marked 6 30 7 false))
     × (pricing (lent 2 (6 ∷ 2 ∷ replicate 6 0) (1 ∷ 0 ∷ replicate 6 0) (0 ∷ 2 ∷ replicate 6 0) 2) ≡ refuses 9)
 unfolding computing
 priced-cases = (refl, refl, refl)
+
+-- what pricing answers for the plans that compare/ lists, with their marks
+
+unfoldable pub answered-all : List Row → List (Reply Marked)
+answered-all [] = []
+answered-all (r ∷ l) = pricing (slotted (r .plan)) ∷ answered-all l
+
+unfoldable pub listed-all : List Row → List (Reply Marked)
+listed-all [] = []
+listed-all (r ∷ l) = gives (marked (r .moved) (r .added) (r .share) (r .fewest)) ∷ listed-all l
+
+abbrev Same : List Row → Type 0
+Same l = answered-all l ≡ listed-all l
+
+listed-cases : Same one-axis
+    × Same two-axes
+    × Same three-axes
+    × Same four-axes
+    × Same not-strictly
+    × Same not-by-axis-number
+    × Same not-the-first-two
+    × Same not-the-planners-alone
+    × Same not-by-portions
+    × Same eight-axes
+    × Same divided-falling
+    × Same divided-rising
+unfolding computing answered-all listed-all one-axis two-axes three-axes four-axes not-strictly not-by-axis-number not-the-first-two not-the-planners-alone not-by-portions eight-axes divided-falling divided-rising
+listed-cases = (refl, refl, refl, refl, refl, refl, refl, refl, refl, refl, refl, refl)

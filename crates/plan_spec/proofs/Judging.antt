@@ -53,6 +53,11 @@ unfolding all
 all-each f zero h = refl
 all-each f (suc n) h = rw (all-each f n (λ d r. h d (omega arith)), h n (omega arith))
 
+pub all-same : (f g : ℕ → Bool) (n : ℕ) → ((d : ℕ) → d < n → f d ≡ g d) → all n f ≡ all n g
+unfolding all
+all-same f g zero h = refl
+all-same f g (suc n) h = rw (all-same f g n (λ d r. h d (omega arith)), h n (omega arith))
+
 pub all-next : (f : ℕ → Bool) (d : ℕ) → all d f ≡ true → f d ≡ true → all (d + 1) f ≡ true
 unfolding all
 all-next f d e t = rw (add-one, e) t

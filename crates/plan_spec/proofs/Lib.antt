@@ -1,4 +1,5 @@
 pub mod Orders
+pub mod Listed
 pub mod Cases
 pub mod Tools
 pub mod Turns
@@ -9,6 +10,7 @@ pub mod Cost
 pub mod Greedy
 pub mod Places
 pub mod Ranked
+pub mod Named
 pub mod Ways
 pub mod Chosen
 pub mod Least
@@ -27,3 +29,4 @@ pub mod Deciding
 pub mod PricingLaws
 pub mod Answering
 pub mod Unaltered
+pub mod Marking

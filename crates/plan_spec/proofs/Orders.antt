@@ -104,12 +104,15 @@ products-count (x ∷ l) f n h =
     other : (i : ℕ) → (i ≡ x → ⊥) → f i ^ (pick (eqb x i) 1 0 + count i l) ≡ f i ^ count i l
     other i ne = rw (ne-eqb x i (λ z. ne (sym z)), zero-add)
 
+-- n places that name each of n numbers once name no other
+pub once-below : (n : ℕ) (l : List ℕ) → length l ≡ n → ((a : ℕ) → a < n → count a l ≡ 1) → (d : ℕ) → d < n → getD l d 0 < n
+once-below n l places once d h =
+    let e : below n l ≡ n = sym (counts n l) ∙ sumN-cong n once ∙ sumN-same 1 n ∙ mul-one n in
+    below-all n l (e ∙ sym places) d (omega arith)
+
 module _ (a : PlanLists) (ok : Sound a) where
   pub order-below : (d : ℕ) → d < length (a .lengths) → getD (a .order) d 0 < length (a .lengths)
-  order-below d h =
-      let n = length (a .lengths) in
-      let e : below n (a .order) ≡ n = sym (counts n (a .order)) ∙ sumN-cong n (ok .once) ∙ sumN-same 1 n ∙ mul-one n in
-      below-all n (a .order) (e ∙ sym (ok .places)) d (let q = ok .places in omega arith)
+  order-below = once-below (length (a .lengths)) (a .order) (ok .places) (ok .once)
 
   pub rank-below : (d : ℕ) → d < length (a .lengths) → find d (a .order) < length (a .lengths)
   rank-below d r = let e = ok .once d r in let q = ok .places in let s = find-lt d (a .order) (omega arith) in omega arith

@@ -1,12 +1,13 @@
 -- Laws of pricing: the recursion over undecided axes gives the sums over every set, and stays far below 2^64.
 use Prim.Native.Nat.{ℕ, zero, suc, _+_, _-_, _*_, _%_, _^_, _≤_, _<_}
 use mathlib.Core.Path.{_≡_, sym, _∙_, refl, ap, ap₂}
+use mathlib.Core.Bool.{Bool, true, false}
 use mathlib.Core.List.{List, [], _∷_}
 use native.Mathlib.Nat.{one-mul, mul-one, mul-assoc, mul-right-comm, mul-le-mul, mul-le-mul-left, mul-le-mul-right, le-trans, mod-eq-of-lt, div-le-of-le-mul, le-div-iff-mul-le, pow-succ', sub-zero}
 use native.Mathlib.Numerals.{add-one}
 use native.Mathlib.Omega.{arith}
-use borrow.Author.Tests.{eqb-true, eqb-false}
-use lib.Dec.{eqb}
+use borrow.Author.Tests.{eqb-true, eqb-false, le-leb, lt-leb}
+use lib.Dec.{eqb, leb}
 use lib.ListN.{getD, take}
 use lib.Pow.{pow-pos, pow-mono}
 use lib.Seq.{getD-take}
@@ -20,17 +21,19 @@ use Rattle.cube_spec.specs.Ways.{sumList}
 use Rattle.cube_spec.specs.Checks.{gives, refuses, answered}
 use Rattle.cube_spec.proofs.Sums.{by}
 use Rattle.cube_spec.proofs.Boxing.{product-cong}
-use Rattle.cube_spec.proofs.Naturals.{sumN-cong}
+use Rattle.cube_spec.proofs.Naturals.{sumN-cong, impossible}
 use Rattle.cube_spec.proofs.Products.{product-pos, product-le, factor-le, product-next, product-none}
 use Rattle.cube_spec.proofs.Sets.{has-head, kept-has, kept-out, kept-other}
 use Rattle.cube_spec.proofs.Axes.{axis, tree, moved-tree, added-tree}
 use Rattle.plan_spec.specs.declared.types.Plan.{Plan}
 use Rattle.plan_spec.specs.Plans as Plans
 use Rattle.plan_spec.specs.Plans.{lengthAt, exponentAt, mostAt, listsOf}
+use Rattle.plan_spec.specs.Refusals.{all}
 use Rattle.plan_spec.specs.Accepted.{Accepted}
-use Rattle.plan_spec.specs.Answers.{pricesOf}
+use Rattle.plan_spec.specs.Answers.{pricesOf, neverRise, fewestAdded}
 use Rattle.plan_spec.specs.Pricing.{movedFrom, addedFrom, mostOf, Priceable, Undecided}
 use Rattle.plan_spec.proofs.Orders.{order-below, product-order}
+use Rattle.plan_spec.proofs.Judging.{all-same, all-next, all-fails, all-end}
 
 -- ---- powers of two
 
@@ -314,6 +317,15 @@ module _ (q : Plan) (ok : Accepted q) where
       let b = below d h in
       sym (getD-take (q .axes) slots (getD (take (q .axes) (q .order)) d 0) 0 b ∙ ap (λ a. getD slots a 0) (getD-take (q .axes) (q .order) d 0 h))
 
+  -- lengths along the order rise where those of the plan do
+  pub fewest-same : (L : List ℕ) → ((d : ℕ) → d < q .axes → getD L d 0 ≡ getD (q .lengths) (getD (q .order) d 0) 0)
+      → neverRise (q .axes) (lengthOf L) ≡ fewestAdded (listsOf q)
+  unfolding neverRise fewestAdded listsOf
+  fewest-same L lens =
+      let e = ok .axes in
+      let at : (d : ℕ) → d < q .axes → getD L d 0 ≡ lengthAt (listsOf q) d = λ d h. lens d h ∙ along (q .lengths) d h in
+      rw e (all-same _ _ (q .axes - 1) (λ i h. ap₂ leb (at (suc i) (omega arith)) (at i (omega arith))))
+
   module _ (L E : List ℕ) (lens : (d : ℕ) → d < q .axes → getD L d 0 ≡ getD (q .lengths) (getD (q .order) d 0) 0) (exps : (d : ℕ) → d < q .axes → getD E d 0 ≡ getD (q .exponents) (getD (q .order) d 0) 0) where
     lens-along : (d : ℕ) → d < q .axes → getD L d 0 ≡ lengthAt (listsOf q) d
     unfolding listsOf
@@ -366,6 +378,23 @@ module _ (q : Plan) (ok : Accepted q) where
     pub starts-same : (i : ℕ) → regionStart (q .axes) (mostOf L E) i ≡ regionStart (q .axes) (mostAt (listsOf q)) i
     starts-same i = starts-cong (q .axes) i (mostOf L E) (mostAt (listsOf q)) most-along
 
+-- ---- the mark, as a loop over neighbours finds it: the first i of them do not rise
+
+module _ (len : ℕ → ℕ) (n i : ℕ) where
+  abbrev steady : ℕ → Bool
+  steady i = leb (len (suc i)) (len i)
+
+  pub steady-next : all i steady ≡ true → len (i + 1) ≤ len i → all (i + 1) steady ≡ true
+  steady-next e h = all-next steady i e (le-leb _ _ (rw add-one at h))
+
+  pub rises : i + 1 < n → len i < len (i + 1) → neverRise n len ≡ false
+  unfolding neverRise
+  rises l h = all-fails steady (n - 1) i (omega arith) (lt-leb _ _ (rw add-one at h))
+
+  pub steady-end : i ≤ n - 1 → n ≤ i + 1 → all i steady ≡ true → neverRise n len ≡ true
+  unfolding neverRise
+  steady-end h k e = all-end steady (n - 1) i h (omega arith) e
+
 -- ---- the entry's answer
 
 pub answer-given : {A : Type 0} (n : ℕ) (a : A) → n ≡ 0 → gives a ≡ answered n a
@@ -376,3 +405,14 @@ pub answer-refused : {A : Type 0} (n : ℕ) (a : A) → (n ≡ 0 → ⊥) → re
 unfolding answered
 answer-refused zero a h = absurd (h refl)
 answer-refused (suc n) a h = refl
+
+-- and what it says of the refusal
+pub given-is : {A : Type 0} (n : ℕ) (a v : A) → gives v ≡ answered n a → (n ≡ 0) × (v ≡ a)
+unfolding answered
+given-is zero a v e = (refl, cc)
+given-is (suc n) a v e = impossible (cc)
+
+pub refused-is : {A : Type 0} (n : ℕ) (a : A) (k : ℕ) → refuses k ≡ answered n a → (k ≡ n) × (k ≡ 0 → ⊥)
+unfolding answered
+refused-is zero a k e = impossible (cc)
+refused-is (suc n) a k e = let q : k ≡ suc n = cc in (q, λ z. omega arith)

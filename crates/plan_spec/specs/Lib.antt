@@ -9,3 +9,4 @@ pub mod Choosing
 pub mod Pricing
 pub mod Demand
 pub mod Before
+pub mod Marking

@@ -15,9 +15,15 @@ pub struct Prices {
     pub share: u64,
 }
 
+// A plan's prices, and whether it has the fewest cells added up.
+pub struct Marked {
+    pub prices: Prices,
+    pub fewest: bool,
+}
+
 // The answer of pricing.
 pub enum Priced {
-    Given(Prices),
+    Given(Marked),
     Refused(u8),
 }
 

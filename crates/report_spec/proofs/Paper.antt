@@ -7,7 +7,7 @@ use lib.ListN.{replicate}
 use lib.IntN.{ℤ, pos, negsuc}
 use Rattle.cube_spec.specs.Choices.{totals}
 use Rattle.cube_spec.specs.Checks.{Reply, gives, refuses}
-use Rattle.plan_spec.specs.declared.types.Prices.{Prices}
+use Rattle.plan_spec.specs.declared.types.Marked.{Marked}
 use Rattle.plan_spec.specs.Plans as Plans
 use Rattle.plan_spec.specs.Plans.{slotted}
 use Rattle.plan_spec.specs.Answers.{pricing}
@@ -49,8 +49,8 @@ plannedOr zero ds p =
     planned (order ds) (orderedExponents ds (a .p)) (Plans.moved a) (Plans.added a) (Plans.shareSize a) (Plans.stepCount a) (idleBoards ds p)
 plannedOr (suc n) ds p = refused (suc n)
 
-abbrev pub priced : Reply Prices → Answer
-priced (gives c) = moves (c .moved)
+abbrev pub priced : Reply Marked → Answer
+priced (gives c) = moves (c .prices .moved)
 priced (refuses n) = refused n
 
 unfoldable pub answer : Question → Answer

@@ -37,7 +37,7 @@ returns-4 c =
 returns-5 : tie.Need-returns-5
 returns-5 c =
     let r = c .before .before in
-    let d = r .before .before .before .before .before .before in
+    let d = r .before .before .before .before .before .before .before in
     let e4 = d .before .before .before .before .before in
     let e3 = e4 .before in
     let e2 = e3 .before in
@@ -45,7 +45,7 @@ returns-5 c =
     let a = e1 .before .before in
     let s = a .before .before .before .before .before .args in
     calling.make-given _ _ (s .small .now) (s .slots .now) (s .cells .now) _ (a .plan .ensures) (e1 .if1 .left) (e2 .if2 .left) (e3 .if3 .left) (e4 .if4 .left)
-    _ _ _ _ (d .put-plan .ensures .0) (d .put-plan .ensures .1) (r .put-planned .ensures .0) (r .put-planned .ensures .1)
+    _ _ _ _ (d .put-plan .ensures .0) (d .put-plan .ensures .1) (r .put-prices .ensures .0) (r .put-prices .ensures .1)
 
 pub campaign-make-spec : {M : Type 1} → statement M
 campaign-make-spec =
@@ -57,6 +57,7 @@ campaign-make-spec =
     returns-3
     returns-4
     (λ c κs. search needs)
+    (λ c. search needs)
     (λ c κs. search needs)
     (λ c. search needs)
     (λ c. search needs)

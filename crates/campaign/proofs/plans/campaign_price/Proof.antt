@@ -13,7 +13,7 @@ returns c =
     let v = p .before .before .before in
     let n = v .before .before in
     let g = n .before in
-    racking.price-given _ _ (g .plan-from .ensures) _ _ _ _ (ap (λ (x : Priced). pricedReply x) (sym (v .cost .given .1)) ∙ n .price .ensures) (p .put-prices .ensures .0) (p .put-prices .ensures .1)
+    racking.price-given _ _ (g .plan-from .ensures) _ _ _ _ (ap (λ (x : Priced). pricedReply x) (sym (v .marked .given .1)) ∙ n .price .ensures) (p .put-marked .ensures .0) (p .put-marked .ensures .1)
 
 returns-2 : tie.Need-returns-2
 returns-2 c =
