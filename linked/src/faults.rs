@@ -2,6 +2,7 @@
 
 use std::cell::Cell;
 
+use crate::mismark::Mismark;
 use crate::misplan::Misplan;
 
 #[derive(Clone, Copy, Debug, PartialEq)]
@@ -68,6 +69,7 @@ pub enum Change {
     After(Part),
     Miscount(Miscount),
     Misplan(Misplan),
+    Mismark(Mismark),
 }
 
 /// How a scan that is told counts wrongly.
@@ -123,6 +125,14 @@ pub fn told_with(entry: Entry, answer: u8, fits: bool) -> u8 {
 pub fn misplan(entry: Entry, answer: u8) -> Option<Misplan> {
     match planted(entry, answer) {
         Some(Change::Misplan(misplan)) => Some(misplan),
+        _ => None,
+    }
+}
+
+/// How a call that answers so marks an order wrongly, if it does.
+pub fn mismark(entry: Entry, answer: u8) -> Option<Mismark> {
+    match planted(entry, answer) {
+        Some(Change::Mismark(mismark)) => Some(mismark),
         _ => None,
     }
 }

@@ -1,6 +1,7 @@
 //! Lawful plans to try.
 
 use compare::judge;
+use compare::order;
 use compare::plan::{planned, Plan};
 use compare::random::Random;
 
@@ -32,7 +33,7 @@ pub fn every(axes: u32, longest: u64) -> Vec<Plan> {
             let lengths: Vec<u64> = (0..axes).map(length).collect();
             for code in 0..3u32.pow(axes) {
                 let exponents: Vec<u32> = (0..axes).map(|i| code / 3u32.pow(i) % 3).collect();
-                for order in orders(axes as usize) {
+                for order in order::every(axes as usize) {
                     let (lengths, exponents) = (lengths.clone(), exponents.clone());
                     let p = exponents.iter().sum();
                     plans.push(Plan { lengths, order, exponents, p });
@@ -42,21 +43,6 @@ pub fn every(axes: u32, longest: u64) -> Vec<Plan> {
     }
     plans.retain(|plan| judge::plan(plan).is_ok());
     plans
-}
-
-fn orders(axes: usize) -> Vec<Vec<usize>> {
-    if axes == 0 {
-        return vec![Vec::new()];
-    }
-    let mut longer = Vec::new();
-    for order in orders(axes - 1) {
-        for place in 0..axes {
-            let mut order = order.clone();
-            order.insert(place, axes - 1);
-            longer.push(order);
-        }
-    }
-    longer
 }
 
 /// The planner's plan with the most steps.

@@ -3,10 +3,11 @@
 
 use std::slice;
 
-use crate::faults::{miscount, misplan, spoil, told, told_with, Entry, Part};
+use crate::faults::{miscount, mismark, misplan, spoil, told, told_with, Entry, Part};
 use crate::misread::heard;
 use crate::plans::{IDLE, MADE};
 use crate::slots::{SLOTS, SMALL};
+use crate::steps::PRICES;
 use crate::tapes::SCANNED;
 
 extern "C" {
@@ -190,7 +191,10 @@ macro_rules! of_plan {
 pub fn price(plan: Slices, prices: &mut [u64]) -> u8 {
     let answer = of_plan!(campaign_price, plan, prices.as_mut_ptr(), prices.len());
     spoil(Entry::Price, answer, Part::Result, prices);
-    told(Entry::Price, answer)
+    if let Some(mismark) = mismark(Entry::Price, answer) {
+        mismark.price(plan, prices);
+    }
+    told_with(Entry::Price, answer, prices.len() == PRICES)
 }
 
 pub fn step_count(plan: Slices, count: &mut [u64]) -> u8 {

@@ -4,7 +4,9 @@ mod engine;
 mod faults;
 mod lawful;
 mod library;
+mod marks;
 mod memory;
+mod mismark;
 mod misplan;
 mod misread;
 mod plans;
@@ -28,9 +30,10 @@ usage: linked plans SEED N      compare planning on every small shape, N random 
        linked readings          compare readings in metres and kilometres: 4,096 mantissas of every sign and exponent, borders, ties
        linked readings all      the same for all 2^32 patterns, on two threads, for some minutes
        linked steps SEED N      compare prices, T, every step and held on every small plan, N random plans and every refusal
+       linked marks SEED N      compare whether an order adds up the fewest cells: every order of small shapes, N random plans
        linked memory SEED N     compare step, view and gather on lent memory: every small plan, N random plans, large ones and every refusal
        linked selftest          plant faults between the library and each comparison, which must see them
-       linked bench             time planning, reading, steps and whole runs, proved and independent, in one run
+       linked bench             time planning, pricing, reading, steps and whole runs, proved and independent, in one run
 ";
 
 fn main() -> ExitCode {
@@ -46,6 +49,9 @@ fn main() -> ExitCode {
         ["steps", seed, n] => {
             seed.parse().ok().zip(n.parse().ok()).map(|(s, n)| steps::check(s, n))
         }
+        ["marks", seed, n] => {
+            seed.parse().ok().zip(n.parse().ok()).map(|(s, n)| marks::check(s, n))
+        }
         ["memory", seed, n] => {
             seed.parse().ok().zip(n.parse().ok()).map(|(s, n)| memory::check(s, n))
         }
@@ -54,6 +60,7 @@ fn main() -> ExitCode {
         ["selftest"] => Some(selftest::check()),
         ["bench"] => {
             plans::bench();
+            marks::bench();
             tapes::bench();
             steps::bench();
             runs::bench();

@@ -1,9 +1,10 @@
 //! Faults planted between the library and each comparison: every one must be seen.
 
 use crate::faults::{plant, Change, Entry, Fault, Miscount, Part, When};
+use crate::mismark::Mismark;
 use crate::misplan::Misplan;
 use crate::misread::{self, Misreading};
-use crate::{memory, plans, readings, steps, tapes, Count};
+use crate::{marks, memory, plans, readings, steps, tapes, Count};
 
 /// A comparison with its seed, and how much of it is run.
 type Loop = (fn(u64, u64) -> Count, u64, u64);
@@ -57,7 +58,7 @@ const TRIALS: [Trial; 13] = [
         Entry::Make,
         &[(Part::Small, Some(18)), (Part::Lengths, Some(8)), (Part::Result, Some(4))],
     ),
-    listing(Entry::Price, &[(Part::Result, Some(3))]),
+    listing(Entry::Price, &[(Part::Result, Some(4))]),
     listing(Entry::StepCount, &[(Part::Result, Some(1))]),
     listing(Entry::StepAt, &[(Part::Result, Some(5))]),
     listing(Entry::Held, &[(Part::Result, Some(1))]),
@@ -107,6 +108,7 @@ pub fn check() -> Count {
     }
     try_all(&mut count, Entry::Step, When::Taken, (memory::runs, 7, 4), changes_in_runs());
     misplans(&mut count);
+    mismarks(&mut count);
     offences(&mut count);
     slices(&mut count);
     miscounts(&mut count);
@@ -150,6 +152,42 @@ fn misplans(count: &mut Count) {
         }
         for number in 3..=6 {
             try_all(count, entry, When::By(number), REFUSED, vec![Change::ResultFirst]);
+        }
+    }
+}
+
+/// What compares marks: random plans with their steps, every order of small shapes, random plans
+/// with orders of every kind.
+const STEPPED: Loop = (steps::requests, 7, 400);
+const ORDERED: Loop = (marks::orders, 7, 3);
+const MARKED: Loop = (marks::requests, 7, 60);
+
+const MISMARKS: [Mismark; 7] = [
+    Mismark::StrictlyFalling,
+    Mismark::InAxisOrder,
+    Mismark::FirstTwo,
+    Mismark::PlannersOrder,
+    Mismark::Portions,
+    Mismark::AlwaysYes,
+    Mismark::AlwaysNo,
+];
+
+/// Besides these, every cell and answer where marks alone are compared, a slice of the wrong length
+/// that is taken, and one that is judged ahead of the plan.
+fn mismarks(count: &mut Count) {
+    for compare in [STEPPED, ORDERED, MARKED] {
+        let mismarks = MISMARKS.map(Change::Mismark).to_vec();
+        try_all(count, Entry::Price, When::Taken, compare, mismarks);
+    }
+    for trial in TRIALS.iter().filter(|trial| trial.entry == Entry::Price) {
+        for compare in [ORDERED, MARKED] {
+            try_all(count, Entry::Price, When::Taken, compare, changes(trial));
+        }
+        let taken = vec![Change::Answer(3)];
+        try_all(count, Entry::Price, When::By(13), MARKED, [changes(trial), taken].concat());
+        for number in [3, 4, 5, 6, 8, 9] {
+            let ahead = vec![Change::ResultFirst];
+            try_all(count, Entry::Price, When::By(number), trial.refused, ahead);
         }
     }
 }

@@ -20,18 +20,21 @@ use crate::slots::{judged, spelled, told, Slots};
 use crate::{nanoseconds, watched, Count};
 
 #[derive(Clone, Copy, Debug)]
-enum Call {
+pub enum Call {
     Price,
     Count,
     Step(u64),
     Held(u64, u32),
 }
 
+/// Cells that pricing fills: values moved, cells added up, A and the mark for a good order.
+pub const PRICES: usize = 4;
+
 impl Call {
     /// How long a lent slice must be.
     fn cells(self) -> usize {
         match self {
-            Call::Price => 3,
+            Call::Price => PRICES,
             Call::Step(_) => 5,
             Call::Count | Call::Held(..) => 1,
         }
@@ -49,6 +52,11 @@ impl Call {
 
 /// The cells that are due, of which `Call::cells` count, or the refusal.
 type Due = Result<[u64; 5], u8>;
+
+/// The prices of a plan, with the mark that is due.
+pub fn prices(plan: &Plan, fewest: bool) -> [u64; 5] {
+    [price::moved(plan), price::added(plan), plan.share(), u64::from(fewest), 0]
+}
 
 /// The independent rack.
 struct Rack<'a> {
@@ -70,9 +78,7 @@ impl Rack<'_> {
 
     fn due(&self, call: Call) -> Due {
         match call {
-            Call::Price => {
-                Ok([price::moved(self.plan), price::added(self.plan), self.plan.share(), 0, 0])
-            }
+            Call::Price => Ok(prices(self.plan, price::fewest(self.plan))),
             Call::Count => Ok([self.total(), 0, 0, 0, 0]),
             Call::Step(at) if at > self.total() => Err(12),
             Call::Step(at) => Ok(told(self.steps.get(at as usize))),
@@ -87,7 +93,7 @@ impl Rack<'_> {
 }
 
 /// A call with a slice of some length.
-fn expect(count: &mut Count, slots: &Slots, call: Call, len: usize, due: Due) {
+pub fn expect(count: &mut Count, slots: &Slots, call: Call, len: usize, due: Due) {
     let before: [u64; 8] = std::array::from_fn(u64::nobodys);
     let mut after = before;
     let answer = call.make(slots, &mut after[..len]);
