@@ -104,12 +104,16 @@ CAMPAIGN_ASSERT(offsetof(struct campaign_rack_plan, exponents) == 2 + CAMPAIGN_A
 #undef CAMPAIGN_ASSERT
 #endif
 
-/* What a plan costs. */
+/*
+ * What a plan costs, and whether its order wastes additions. Each choice but the full one is summed
+ * from its parent, a choice that keeps the same axes and exactly one more: a way to form the totals
+ * selects these parents, and a plan's tree is one such way.
+ */
 struct campaign_prices {
     uint64_t moved;  /* values moved between boards */
     uint64_t added;  /* cells added up */
     uint64_t share;  /* A: the cells of one board's share of the work area */
-    uint64_t fewest; /* 1: no way to form the totals adds up fewer cells; 0: some way does */
+    uint64_t fewest; /* 1: no selection of parents adds up fewer cells; 0: some selection does */
 };
 
 enum campaign_kind {
@@ -188,7 +192,7 @@ uint8_t campaign_make(const uint32_t *lengths, size_t lengths_len, uint8_t p,
                       uint8_t *plan, size_t plan_len, uint32_t *slots, size_t slots_len,
                       uint64_t *cells, size_t cells_len);
 
-/* Pricing: see campaign_plan_price. */
+/* Pricing: see campaign_plan_price. CAMPAIGN_PRICES_CELLS cells, of which the last is 1 or 0. */
 uint8_t campaign_price(const uint8_t *plan, size_t plan_len,
                        const uint32_t *slots, size_t slots_len,
                        uint64_t *prices, size_t prices_len);
@@ -262,8 +266,8 @@ uint8_t campaign_open(const uint8_t *tape, size_t tape_len, int32_t *array, size
  * each is cut. Where p is over F, the sum of floor(log2 length), the axes cannot be divided for so
  * many boards, and 2^F are used: plan->p is then F, and *idle says how many of the 2^p stand idle,
  * else 0. No way to form the totals, with any division of the axes for the boards in use, moves
- * fewer values or adds up fewer cells. `lengths` has the axes' lengths, in axis order. Refusals
- * 3 to 6.
+ * fewer values or adds up fewer cells: prices->fewest is 1. `lengths` has the axes' lengths, in axis
+ * order. Refusals 3 to 6.
  */
 static inline uint8_t campaign_plan_make(const uint32_t *lengths, size_t axes, uint8_t p,
                                          struct campaign_rack_plan *plan,
@@ -277,18 +281,18 @@ static inline uint8_t campaign_plan_make(const uint32_t *lengths, size_t axes, u
         prices->moved = cells[0];
         prices->added = cells[1];
         prices->share = cells[2];
-        prices->fewest = 1; /* as campaign_price says of every plan of campaign_make */
+        prices->fewest = 1; /* as campaign_price says of each plan that campaign_make gives */
         *idle = (uint32_t)cells[3];
     }
     return refusal;
 }
 
 /*
- * What a plan costs, and whether its order wastes additions: prices->fewest is 1 where the lengths
- * never rise along the order, equal neighbours counting as no rise, and then no selection of parents,
- * tree or not, adds up fewer cells. Where one rises it is 0, and the tree of campaign_plan_make adds
- * up fewer. How the axes are divided plays no part. Refusals 3 to 6, 8, 9, as of every function that
- * takes a plan.
+ * What a plan costs, and whether its order wastes additions. prices->fewest is 1 exactly where the
+ * lengths never rise along the order: none is more than the one before it. Then no selection of
+ * parents, tree or not, adds up fewer cells. Where it is 0, the plan that campaign_plan_make gives
+ * for the same lengths adds up fewer, whatever the boards. How the axes are divided plays no part.
+ * Refusals 3 to 6, 8, 9, as of every function that takes a plan.
  */
 static inline uint8_t campaign_plan_price(const struct campaign_rack_plan *plan,
                                           struct campaign_prices *prices)

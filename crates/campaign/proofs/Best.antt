@@ -3,22 +3,29 @@
 use Prim.Native.Nat.{ℕ, _+_, _^_}
 use mathlib.Core.List.{List, [], _∷_}
 use mathlib.Core.Path.{_≡_, sym, _∙_, refl, ap, subst}
-use lib.ListN.{getD}
+use lib.ListN.{length, getD}
 use denote.Ref.{now}
 use contract.Lifetimes.{Lfts}
 use borrow.Fn.World.{ArgsD, ResD}
 use denote.Triple.Clauses.{AtExit}
+use Rattle.cube_spec.specs.Checks.{first}
 use Rattle.plan_spec.specs.declared.types.Planned.{Planned}
+use Rattle.plan_spec.specs.declared.types.Marked.{Marked}
 use Rattle.plan_spec.specs.Plans.{listsOf}
 use Rattle.plan_spec.specs.Rule.{powerUsed, idleBoards}
-use Rattle.plan_spec.specs.Answers.{planning}
+use Rattle.plan_spec.specs.Refusals.{planChecks, planRefusal}
+use Rattle.plan_spec.specs.Answers.{markedOf, pricing, planning}
+use Rattle.plan_spec.proofs.PricingLaws.{given-is}
 use Rattle.plan_spec.proofs.Unaltered.{idle-used}
 use Rattle.plan_entry.specs.Best.{Best, Runnable}
 use Rattle.plan_entry.proofs.Best.{answer-best, answer-runs, answer-idle}
 use Rattle.controller.specs.Bytes.{pairs, planIn}
 use Rattle.controller.specs.Best.{BestPlan}
 use Rattle.controller.proofs.Best.{result-best}
+use Rattle.rack_spec.proofs.Refusing.{plan-numbered}
 use Rattle.campaign_slices.specs.Lent.{writtenOr}
+use Rattle.campaign_slices.specs.Racks.{cellsPriced, markCell, priceRefusal, priced}
+use Rattle.campaign_slices.proofs.Lending.{right-after}
 use Rattle.campaign.specs.Calls.{idling, Made, readBack}
 use Rattle.campaign.proofs.Calling.{make-answer, make-planned}
 use Rattle.campaign.proofs.plans.campaign_plan as bytes
@@ -67,6 +74,15 @@ module _ (κs : Lfts 4) (a : ArgsD make.signature κs) (r : ResD make.signature 
   -- Statement: the plan is of these lengths and the p used, and no entry refuses it for what a plan may be (3 to 9).
   pub make-runs : Runnable lengths power told
   make-runs = subst (Runnable lengths power) (sym says) (answer-runs lengths asked none)
+
+  -- Statement: pricing takes what was left, and tells the same prices and yes to "fewest cells added up".
+  pub make-price : (out : List ℕ) → length out ≡ 4 → (0 ≡ priceRefusal (told .plan) (length out)) × (cellsPriced (told .prices) 1 ≡ priced (told .plan) out)
+  unfolding pricing planRefusal priceRefusal priced
+  make-price out h =
+      let q = told .plan in
+      let g = given-is (first (planChecks q)) (markedOf (listsOf q)) _ (sym (make-best .priced)) in
+      let k = ap (λ (m : Marked). cellsPriced (m .prices) (markCell (m .fewest))) (g .1) in
+      right-after (planChecks q) 4 out (plan-numbered q) (g .0) _ h _ k
 
   -- Statement: the idle boards and the plan's are all that were asked for.
   pub make-idle : told .idle + 2 ^ listsOf (told .plan) .p ≡ 2 ^ asked

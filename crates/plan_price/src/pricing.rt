@@ -97,7 +97,7 @@ fn never_rise(lengths: [u32; 8], n: usize) -> bool
     true
 }
 
-// Has a plan that no check refuses the fewest cells added up? It has, where lengths never rise along its order.
+// Has a plan that no check refuses the fewest cells added up? It has exactly where lengths never rise along its order.
 fn fewest(plan: Plan) -> bool
     requires { ⌜ planRefusal plan ≡ 0 ⌝ }
     ensures { λ r. ⌜ r ≡ fewestAdded (listsOf plan) ⌝ }

@@ -12,7 +12,7 @@ use lib.Dec.{leb}
 use lib.ListN.{length, getD, replicate}
 use Rattle.cube_spec.specs.Boxes.{tableFrom, table}
 use Rattle.cube_spec.specs.Choices.{withMask, keeps, cells, lengthOf}
-use Rattle.cube_spec.specs.Ways.{Way, addedBy}
+use Rattle.cube_spec.specs.Ways.{Way, sumList, addedBy}
 use Rattle.cube_spec.proofs.Sums.{by}
 use Rattle.cube_spec.proofs.Naturals.{clash}
 use Rattle.cube_spec.proofs.Slots.{table-here}
@@ -36,10 +36,10 @@ use Rattle.plan_spec.proofs.Least.{adds-least}
 use Rattle.plan_spec.proofs.Attained.{each, keyed, keyed-keys, each-along, keyed-along, cost-shuffled, order-way, order-way-axis, attained, tree-way, tree-way-axis, adds-attained}
 use Rattle.plan_spec.proofs.Tools.{add-same}
 
--- ---- yes and no, computed on orders that an engineer might type: equal neighbours count as yes, and lengths alone decide, not axis numbers or exponents
+-- ---- yes and no, computed: equal neighbours count as yes, and lengths alone decide, not axis numbers or exponents
 
 abbrev mark : List ℕ → List ℕ → List ℕ → Bool
-mark ds o ks = fewestAdded (record { lengths = ds; order = o; exponents = ks; p = 0 })
+mark ds o ks = fewestAdded (record { lengths = ds; order = o; exponents = ks; p = sumList ks })
 
 marked-cases : (mark (5 ∷ []) (0 ∷ []) (0 ∷ []) ≡ true)
     × (mark (3 ∷ 2 ∷ []) (0 ∷ 1 ∷ []) (0 ∷ 1 ∷ []) ≡ true)
@@ -48,8 +48,9 @@ marked-cases : (mark (5 ∷ []) (0 ∷ []) (0 ∷ []) ≡ true)
     × (mark (3 ∷ 3 ∷ []) (1 ∷ 0 ∷ []) (1 ∷ 0 ∷ []) ≡ true)
     × (mark (4 ∷ 2 ∷ 3 ∷ []) (0 ∷ 1 ∷ 2 ∷ []) (0 ∷ 0 ∷ 0 ∷ []) ≡ false)
     × (mark (4 ∷ 2 ∷ 3 ∷ []) (0 ∷ 2 ∷ 1 ∷ []) (0 ∷ 0 ∷ 0 ∷ []) ≡ true)
+    × (mark (3 ∷ 4 ∷ 2 ∷ []) (0 ∷ 1 ∷ 2 ∷ []) (0 ∷ 0 ∷ 0 ∷ []) ≡ false)
 unfolding fewestAdded neverRise all
-marked-cases = (refl, refl, refl, refl, refl, refl, refl)
+marked-cases = (refl, refl, refl, refl, refl, refl, refl, refl)
 
 -- sixteen axes, the last first: all equal, and with one rise at the end
 sixteen-cases : (mark (replicate 16 2) (table 16 (λ i. 15 - i)) [] ≡ true) × (mark (3 ∷ replicate 15 2) (table 16 (λ i. 15 - i)) [] ≡ false)
@@ -66,7 +67,7 @@ Filled : List Axis → Type 0
 Filled [] = Unit {0}
 Filled (a ∷ r) = (1 ≤ a .len) × Filled r
 
--- any price of the last axis summed is at least the least
+-- with the last axis summed each choice costs at least what it costs with the cheapest one, whose key so far is `m`
 some-above : (m k c : ℕ) (r : List Axis) → m ≤ k → cost plain (some m) c r ≤ tree plain k c r
 unfolding cost rate lower tree
 some-above m k c [] h = mul-le-mul-left c h
@@ -80,15 +81,19 @@ none-above c (a ∷ r) = add-le-add (none-above (c * a .len) r) (some-above (a .
 cells-some : (c l : ℕ) → 1 ≤ c → 1 ≤ l → 1 ≤ c * l
 cells-some c l h k = mul-le-mul {n₁ = 1} {m₁ = 1} {n₂ = c} {m₂ = l} h k
 
--- and more, where it is more than one before it
+-- and all of them more, where the last one's key is above the least
 strictly : (m k c : ℕ) (r : List Axis) → 1 ≤ c → Filled r → m < k → cost plain (some m) c r < tree plain k c r
 unfolding cost rate lower tree Filled
-strictly m k c [] h f l = let q = mul-le-mul-left c l in let e : c * suc m ≡ c * m + c = omega arith in omega arith
+strictly m k c [] h f l =
+    let q = mul-le-mul-left c l in
+    let e : c * suc m ≡ c * m + c = omega arith in
+    omega arith
 strictly m k c (a ∷ r) h f l =
     let p = strictly m k (c * a .len) r (cells-some c (a .len) h (f .0)) (f .1) l in
     let q = some-above (min m (a .key)) (a .key) c r (omega arith) in
     omega arith
 
+-- so where keys rise along the order the tree costs more
 some-rise : (k c : ℕ) (r : List Axis) → 1 ≤ c → Filled r → (Falls k (keys r) → ⊥) → cost plain (some k) c r < tree plain k c r
 unfolding cost rate lower tree keys Falls Filled
 some-rise k c [] h f n = absurd (n tt)
@@ -96,7 +101,10 @@ some-rise k c (a ∷ r) h f n = go (decLe (a .key) k) (λ l. some-rise (a .key) 
   where
     go : Dec (a .key ≤ k) → (a .key ≤ k → cost plain (some (a .key)) c r < tree plain (a .key) c r)
         → cost plain (some k) (c * a .len) r + cost plain (some (min k (a .key))) c r < tree plain k (c * a .len) r + tree plain (a .key) c r
-    go (yes l) i = let p = i l in let q = some-above k k (c * a .len) r (le-refl k) in rw (min-eq-right l) (omega arith)
+    go (yes l) i =
+        let p = i l in
+        let q = some-above k k (c * a .len) r (le-refl k) in
+        rw (min-eq-right l) (omega arith)
     go (no l) i =
         let u : k ≤ a .key = omega (arith, l) in
         let p = strictly k (a .key) c r h (f .1) (omega (arith, l)) in
@@ -118,12 +126,9 @@ module _ (len : ℕ → ℕ) where
   unfolding Falls tableFrom
   falls-table zero d b h l = tt
   falls-table (suc zero) d b h l = (l, tt)
-  falls-table (suc (suc m)) d b h l = (l, falls-table (suc m) (d + 1) (len d) (λ i r s. h i (omega arith) (omega arith)) (let q : d + 1 ≡ suc d = omega arith in rw q (h d (le-refl d) (omega arith))))
-
-  filled-table : (m d : ℕ) → ((i : ℕ) → i < d + m → 1 ≤ len i) → Filled (tableFrom m d (axis len len))
-  unfolding Filled tableFrom
-  filled-table zero d h = tt
-  filled-table (suc m) d h = (h d (omega arith), filled-table m (d + 1) (λ i l. h i (omega arith)))
+  falls-table (suc (suc m)) d b h l =
+      let q : d + 1 ≡ suc d = omega arith in
+      (l, falls-table (suc m) (d + 1) (len d) (λ i r s. h i (omega arith) (omega arith)) (rw q (h d (le-refl d) (omega arith))))
 
   module _ (n : ℕ) where
     yes-falls : neverRise n len ≡ true → Falls (len 0) (table n len)
@@ -140,7 +145,7 @@ module _ (len : ℕ → ℕ) where
 
 -- ---- what the tree of an order adds up
 
--- a key for each price: the same tree
+-- with other keys of the same prices it is the same tree
 tree-keys : (price e f : ℕ → ℕ) (k j c : ℕ) (l : List Typed) → price k ≡ j → All (λ t. price (e (t .num)) ≡ f (t .num)) l
     → tree price k c (keyed e l) ≡ tree plain j c (keyed f l)
 unfolding tree keyed All
@@ -157,7 +162,7 @@ pub planned-yes : (ds : List ℕ) (p : ℕ) → fewestAdded (planOf ds p) ≡ tr
 unfolding fewestAdded neverRise planOf orderedLength
 planned-yes ds p = all-each _ (length ds - 1) (λ i l. le-leb _ _ (lengths-fall ds i (omega arith)))
 
--- No exponent plays a part in what follows: of a plan, the order names each axis once, and that is all.
+-- No exponent plays a part in what follows: of a plan, the order names each axis once, and for a no each length is at least 1.
 module _ (a : PlanLists) (places : length (a .order) ≡ length (a .lengths)) (once : (d : ℕ) → d < length (a .lengths) → count d (a .order) ≡ 1) where
   abbrev ds : List ℕ
   ds = a .lengths
@@ -260,6 +265,7 @@ marking a places once h =
     let yes : fewestAdded a ≡ true → Plans.added a ≡ best = λ e. yes-cost a places once e ∙ sym (planned-cost ds) in
     let no : fewestAdded a ≡ false → best < Plans.added a = λ e. rw planned-cost (no-cost a places once h e) in
     record {
+      test = unfold fewestAdded in refl;
       own = own-way a places once;
       own-axes = λ choice r. (unfold own-way in order-way-axis ds (a .order) (shuffled a places once) choice);
       own-adds = own-added a places once;
