@@ -185,6 +185,8 @@ int main(void)
 
     plan_tape(&scan, &plan, &prices);
     print_prices("plan", &prices);
+    check("price", campaign_plan_price(&plan, &prices));
+    print_prices("the same, priced", &prices);
     print_other(&plan);
     print_larger(&scan);
     print_steps(&plan);

@@ -291,8 +291,8 @@ static inline uint8_t campaign_plan_make(const uint32_t *lengths, size_t axes, u
  * What a plan costs, and whether its order wastes additions. prices->fewest is 1 exactly where the
  * lengths never rise along the order: none is more than the one before it. Then no selection of
  * parents, tree or not, adds up fewer cells. Where it is 0, the plan that campaign_plan_make gives
- * for the same lengths adds up fewer, whatever the boards. How the axes are divided plays no part.
- * Refusals 3 to 6, 8, 9, as of every function that takes a plan.
+ * for the same lengths adds up fewer, whatever p. How the axes are divided plays no part, and of
+ * values moved it says nothing. Refusals 3 to 6, 8, 9, as of every function that takes a plan.
  */
 static inline uint8_t campaign_plan_price(const struct campaign_rack_plan *plan,
                                           struct campaign_prices *prices)

@@ -4,7 +4,7 @@
 mod common;
 
 use common::marks::{added_by_weights, any_lengths, any_order, undivided, Tally, TURNS, WRONG};
-use common::{highest_p, lawful_plans, orders, shapes};
+use common::{highest_p, lawful_plans, orders, shapes, wide};
 use compare::plan::{planned, planning, Plan};
 use compare::random::Random;
 use compare::search::Way;
@@ -14,7 +14,7 @@ use compare::{choice, order, price, search};
 #[track_caller]
 fn mark(lengths: &[u64], order: &[usize]) -> bool {
     let mark = price::fewest(&undivided(lengths, order));
-    assert_eq!(order::fewest(lengths, order), mark, "{lengths:?} {order:?}");
+    assert_eq!(wide::fewest(lengths, order), mark, "{lengths:?} {order:?}");
     assert_eq!(order::never_rises(lengths, order), mark, "{lengths:?} {order:?}");
     mark
 }
@@ -23,7 +23,7 @@ fn mark(lengths: &[u64], order: &[usize]) -> bool {
 #[track_caller]
 fn added(lengths: &[u64], order: &[usize]) -> u64 {
     let added = price::added(&undivided(lengths, order));
-    assert_eq!(order::added(lengths, order), added, "{lengths:?} {order:?}");
+    assert_eq!(wide::added(lengths, order), added, "{lengths:?} {order:?}");
     assert_eq!(added_by_weights(lengths, order), added, "{lengths:?} {order:?}");
     added
 }
@@ -55,7 +55,7 @@ fn every_order_of_small_shapes() {
     let mut tally = Tally::default();
     for lengths in small_shapes() {
         let least = search::least_added(&lengths);
-        assert_eq!(order::least_added(&lengths), least, "{lengths:?}");
+        assert_eq!(wide::least_added(&lengths), least, "{lengths:?}");
         for order in orders(lengths.len()) {
             let added = added(&lengths, &order);
             assert!(added >= least, "{lengths:?} {order:?}");
@@ -144,10 +144,10 @@ fn nine_to_sixteen_axes() {
         for turn in 0..60 {
             let lengths = any_lengths(&mut random, axes);
             let order = any_order(&mut random, &lengths, turn);
-            let added = order::added(&lengths, &order);
+            let added = wide::added(&lengths, &order);
             assert_eq!(added, added_by_weights(&lengths, &order), "{lengths:?} {order:?}");
-            let mark = order::fewest(&lengths, &order);
-            assert_eq!(mark, added == order::least_added(&lengths), "{lengths:?} {order:?}");
+            let mark = wide::fewest(&lengths, &order);
+            assert_eq!(mark, added == wide::least_added(&lengths), "{lengths:?} {order:?}");
             assert_eq!(mark, order::never_rises(&lengths, &order), "{lengths:?} {order:?}");
             tally.count(mark);
         }
@@ -161,11 +161,11 @@ fn a_rise_at_any_place_of_sixteen_axes() {
     let order: Vec<usize> = (0..16).collect();
     for place in 1..16 {
         let mut lengths = vec![1; 16];
-        assert!(order::fewest(&lengths, &order));
+        assert!(wide::fewest(&lengths, &order));
         lengths[place] = 2;
-        assert!(!order::fewest(&lengths, &order), "{lengths:?}");
+        assert!(!wide::fewest(&lengths, &order), "{lengths:?}");
         lengths[..place].fill(2);
-        assert!(order::fewest(&lengths, &order), "{lengths:?}");
+        assert!(wide::fewest(&lengths, &order), "{lengths:?}");
     }
 }
 

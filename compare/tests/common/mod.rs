@@ -3,6 +3,9 @@
 pub mod exact;
 pub mod marks;
 pub mod process;
+pub mod wide;
+
+pub use compare::order::every as orders;
 
 use compare::plan::Plan;
 use compare::random::Random;
@@ -19,20 +22,6 @@ pub fn shapes(axes: usize, longest: u64) -> Vec<Vec<u64>> {
         shapes = shapes.iter().flat_map(longer).collect();
     }
     shapes
-}
-
-pub fn orders(axes: usize) -> Vec<Vec<usize>> {
-    if axes == 0 {
-        return vec![Vec::new()];
-    }
-    let with_last = |order: Vec<usize>| {
-        (0..axes).map(move |place| {
-            let mut order = order.clone();
-            order.insert(place, axes - 1);
-            order
-        })
-    };
-    orders(axes - 1).into_iter().flat_map(with_last).collect()
 }
 
 /// The highest p that has a grid division, counted by halving.

@@ -57,4 +57,4 @@ module _ (κs : Lfts 3) (a : ArgsD signature κs) (r : ResD signature κs) (s : 
   unfolding pricing markedOf
   price-marking =
       let k = from-slots (now (a .0)) (now (a .1 .0)) in
-      rw left (pricing-marking lent (k .0) (k .1 .0) (k .1 .1) (markedOf (listsOf lent)) (sym (answer-given (planRefusal lent) (markedOf (listsOf lent)) passed)))
+      rw left (pricing-marking lent k (markedOf (listsOf lent)) (sym (answer-given (planRefusal lent) (markedOf (listsOf lent)) passed)))

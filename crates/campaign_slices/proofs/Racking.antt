@@ -7,7 +7,6 @@ use borrow.Author.Tests.{eqb-true, eqb-false, eq-eqb, ne-eqb, lt-ltb, le-ltb}
 use lib.Dec.{eqb}
 use lib.ListN.{length, take, drop, set, getD, length-drop, length-append, length-set, drop-of-length-le}
 use lib.Seq.{sets, sets-eq, length-sets, take-all, length-take-le, getD-drop, take-append-seam, drop-append-seam}
-use Rattle.cube_spec.specs.Limits.{axisLimit}
 use Rattle.cube_spec.specs.Checks.{check, first, gives, refuses}
 use Rattle.cube_spec.proofs.Sums.{by}
 use Rattle.cube_spec.proofs.Dues.{Numbered}
@@ -16,6 +15,7 @@ use Rattle.cube_spec.proofs.Stores.{joined, next}
 use Rattle.plan_spec.specs.declared.types.Plan.{Plan}
 use Rattle.plan_spec.specs.declared.types.Marked.{Marked}
 use Rattle.plan_spec.specs.Plans.{stepCount, listsOf, slotted}
+use Rattle.plan_spec.specs.Accepted.{HasSlots}
 use Rattle.plan_spec.specs.Refusals.{planChecks, lengthChecks, planRefusal}
 use Rattle.plan_spec.specs.Answers.{markedOf, pricing}
 use Rattle.plan_spec.proofs.PricingLaws.{given-is, refused-is}
@@ -27,10 +27,6 @@ use Rattle.rack_spec.specs.Answers.{Told, toldAt, pastEnd, heldChecks, heldRefu
 use Rattle.campaign_slices.specs.Lent.{lentRefusal, writtenOr}
 use Rattle.campaign_slices.specs.Racks.{noPlan, planFrom, bytesOf, priceRefusal, countRefusal, atChecks, atRefusal, holdRefusal, cellsTold, cellsPriced, markCell, priced, counted, steppedAt, held}
 use Rattle.campaign_slices.proofs.Lending.{refused, passed}
-
--- the arrays of a plan have their slots
-abbrev pub HasSlots : Plan → Type 0
-HasSlots q = (length (q .lengths) ≡ axisLimit) × ((length (q .order) ≡ axisLimit) × (length (q .exponents) ≡ axisLimit))
 
 -- ---- copies
 

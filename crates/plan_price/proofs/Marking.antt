@@ -1,16 +1,16 @@
 -- What the mark in an answer of pricing means (plan_spec/Marking), for whatever plan a call is lent: yes exactly where no way adds up fewer cells than
 -- the answer says.
 use mathlib.Core.Path.{_≡_, sym, _∙_, subst}
-use lib.ListN.{length, length-map}
+use lib.ListN.{length-map}
 use contract.Lifetimes.{Lfts}
 use borrow.Fn.World.{ArgsD, ResD}
 use borrow.Fn.Kinds.{GoodsP}
 use denote.Triple.Clauses.{AtExit}
-use Rattle.cube_spec.specs.Limits.{axisLimit}
 use Rattle.cube_spec.specs.Checks.{gives}
 use Rattle.plan_spec.specs.declared.types.Plan.{Plan}
 use Rattle.plan_spec.specs.declared.types.Marked.{Marked}
 use Rattle.plan_spec.specs.Plans.{listsOf}
+use Rattle.plan_spec.specs.Accepted.{HasSlots}
 use Rattle.plan_spec.specs.Refusals.{planRefusal}
 use Rattle.plan_spec.specs.Answers.{pricesOf, markedOf, pricedReply, pricing}
 use Rattle.plan_spec.specs.Marking.{Marking}
@@ -25,12 +25,11 @@ abbrev MarkingOf : Plan → Marked → Type 0
 MarkingOf q m = Marking (listsOf q .lengths) (listsOf q .order) (m .prices .added) (m .fewest)
 
 -- a plan whose arrays have their slots
-pub pricing-marking : (q : Plan) → length (q .lengths) ≡ axisLimit → length (q .order) ≡ axisLimit → length (q .exponents) ≡ axisLimit
-    → (m : Marked) → pricing q ≡ gives m → MarkingOf q m
+pub pricing-marking : (q : Plan) → HasSlots q → (m : Marked) → pricing q ≡ gives m → MarkingOf q m
 unfolding pricing markedOf pricesOf
-pricing-marking q l o k m e =
+pricing-marking q slots m e =
     let (z, g) = given-is (planRefusal q) (markedOf (listsOf q)) m (sym e) in
-    let ok = accepted q l o k z in
+    let ok = accepted q (slots .0) (slots .1 .0) (slots .1 .1) z in
     subst (MarkingOf q) (sym g) (marking (listsOf q) (ok .sound .places) (ok .sound .once) (ok .lengths .some))
 
 -- for every call, by what its caller learns; `good` is what owning the plan tells, that its arrays have their slots
@@ -39,4 +38,5 @@ pub priced-marking : (κs : Lfts 0) (a : ArgsD signature κs) (r : ResD signatur
 priced-marking κs a r s good h m e =
     let q : pricedReply r ≡ pricing (a .0) = h in
     let g = good .0 .1 .1 .1 .1 in
-    pricing-marking (a .0) (rw length-map at (g .0 .1 .0 .1)) (rw length-map at (g .1 .0 .1 .0 .1)) (rw length-map at (g .1 .1 .0 .1 .0 .1)) m (sym q ∙ e)
+    let slots : HasSlots (a .0) = (rw length-map at (g .0 .1 .0 .1), (rw length-map at (g .1 .0 .1 .0 .1), rw length-map at (g .1 .1 .0 .1 .0 .1))) in
+    pricing-marking (a .0) slots m (sym q ∙ e)

@@ -104,9 +104,9 @@ fn fewest(plan: Plan) -> bool
 {
     let n = plan.axes as usize;
     let by_axis = plan.lengths;
-    let order = plan.order;
-    let lengths = in_order(by_axis, order, n);
-    never_rise(lengths, n)
+    let places = plan.order;
+    let along = in_order(by_axis, places, n);
+    never_rise(along, n)
 }
 
 // The public entry: a plan's prices with its mark, or its refusal.

@@ -1,11 +1,11 @@
--- The tree of any order is a way; the planner's tree and exponents are a way and a division, so the least is attained.
-use Prim.Native.Nat.{ℕ, zero, suc, _+_, _*_, _^_, _≤_, _<_, min}
+-- The tree of an order that names each axis once is a way; the planner's tree and exponents are a way and a division, so the least is attained.
+use Prim.Native.Nat.{ℕ, zero, suc, _+_, _-_, _*_, _^_, _≤_, _<_, min}
 use mathlib.Core.Path.{_≡_, _∙_, ap, ap₂, sym, refl, fun-ext}
 use mathlib.Core.Bool.{Bool, true, false}
 use mathlib.Core.List.{List, [], _∷_}
 use mathlib.Core.Option.{Option, none, some}
 use native.Mathlib.Omega.{arith}
-use native.Mathlib.Nat.{one-mul, mul-one, min-eq-right, zero-add}
+use native.Mathlib.Nat.{one-mul, mul-one, le-refl, min-eq-right, zero-add}
 use lib.ListN.{length, getD}
 use lib.Pow.{pow-pos}
 use Rattle.cube_spec.specs.Boxes.{pick, sumN, tableFrom, table}
@@ -18,17 +18,16 @@ use Rattle.cube_spec.proofs.Masks.{all-kept, parent-cells}
 use Rattle.cube_spec.proofs.Tables.{table-length, table-of}
 use Rattle.cube_spec.proofs.Axes.{Axis, lens, keys, tree, axis, axes-same, lens-length, lens-table, keys-table, moved-tree, added-tree}
 use Rattle.plan_spec.specs.Plans as Plans
-use Rattle.plan_spec.specs.Plans.{count, find, exponentAt}
+use Rattle.plan_spec.specs.Plans.{PlanLists, count, find, lengthAt, exponentAt}
 use Rattle.plan_spec.specs.Rule.{Typed, numbered, numbers, order, orderedLength, exponents, planOf}
 use Rattle.plan_spec.specs.Trees.{lastSummed, treeAxis}
-use Rattle.plan_spec.proofs.Orders.{find-lt, get-find}
-use Rattle.plan_spec.proofs.Sorted.{lengths, sorted, largest, sorted-falls, Falls, falls-more, numbered-lengths, ordered-sorted}
+use Rattle.plan_spec.proofs.Orders.{find-lt, get-find, find-get, once-below}
+use Rattle.plan_spec.proofs.Sorted.{lengths, Falls, falls-more, numbered-lengths, ordered-sorted}
 use Rattle.plan_spec.proofs.Shuffled.{Shuffled, same, under, swap, then, All}
-use Rattle.plan_spec.proofs.Places.{order-length, order-once, ordered-length, ordered-table, all-at, all-along}
-use Rattle.plan_spec.proofs.Named.{named, named-length, named-numbers, planner-shuffled}
+use Rattle.plan_spec.proofs.Places.{order-length, order-once, ordered-length, all-at, all-along}
+use Rattle.plan_spec.proofs.Named.{named, named-length, named-numbers, planner-shuffled, once-shuffled}
 use Rattle.plan_spec.proofs.Cost.{lower, lower-swap, rate, cost, cost-swap, falling-tree, Fits}
 use Rattle.plan_spec.proofs.Ways.{leastKey, cheapest, cost-below}
-use Rattle.plan_spec.proofs.Ranked.{exponents-fall}
 use Rattle.plan_spec.proofs.Chosen.{planned, planned-lens, planned-keys, planned-length, exponent-of, exponents-table}
 use Rattle.plan_spec.proofs.Least.{sent-zero, planned-fits, planned-sum}
 use Rattle.plan_spec.proofs.Tools.{bool-cases, add-same}
@@ -203,25 +202,49 @@ first-least kept e b i (t ∷ r) f =
 
 -- ---- the tree of an order is a way
 
+-- numbers by place that never rise fall
+pub falls-table : (len : ℕ → ℕ) (m d b : ℕ) → ((i : ℕ) → d ≤ i → suc i < d + m → len (suc i) ≤ len i) → len d ≤ b → Falls b (tableFrom m d len)
+unfolding Falls tableFrom
+falls-table len zero d b h l = tt
+falls-table len (suc zero) d b h l = (l, tt)
+falls-table len (suc (suc m)) d b h l =
+    let q : d + 1 ≡ suc d = omega arith in
+    (l, falls-table len (suc m) (d + 1) (len d) (λ i r s. h i (omega arith) (omega arith)) (rw q (h d (le-refl d) (omega arith))))
+
 some-axis : (n mask : ℕ) → mask < fullMask n → 0 < n
 some-axis zero mask h = absurd (unfold fullMask in omega arith)
 some-axis (suc n) mask h = omega arith
 
-module _ (ds o : List ℕ) (s : Shuffled (named (lengthOf ds) o) (numbered 0 ds)) where
+-- with other keys of the same prices it is the same tree
+tree-same : (price price′ e e′ : ℕ → ℕ) (k k′ c : ℕ) (l : List Typed) → price k ≡ price′ k′ → All (λ t. price (e (t .num)) ≡ price′ (e′ (t .num))) l
+    → tree price k c (keyed e l) ≡ tree price′ k′ c (keyed e′ l)
+unfolding tree keyed All
+tree-same price price′ e e′ k k′ c [] z h = ap (λ x. c * x) z
+tree-same price price′ e e′ k k′ c (t ∷ r) z h =
+    add-same (tree-same price price′ e e′ k k′ (c * t .len) r z (h .1)) (tree-same price price′ e e′ (e (t .num)) (e′ (t .num)) c r (h .0) (h .1))
+
+-- of an order that names each axis once
+module _ (ds o : List ℕ) (places : length o ≡ length ds) (once : (d : ℕ) → d < length ds → count d o ≡ 1) where
+  abbrev n : ℕ
+  n = length ds
+
   abbrev along : List Typed
   along = named (lengthOf ds) o
 
+  shuffled : Shuffled along (numbered 0 ds)
+  shuffled = once-shuffled ds o places once
+
   -- a choice below the full one sums some axis
-  below-some : (mask : ℕ) → mask < fullMask (length ds) → some-summed (keeps mask) along ≡ true
+  below-some : (mask : ℕ) → mask < fullMask n → some-summed (keeps mask) along ≡ true
   unfolding fullMask
   below-some mask h =
-      some-shuffled (keeps mask) s ∙ by (some-summed (keeps mask) (numbered 0 ds)) (λ t. t) (λ t. absurd (all t))
+      some-shuffled (keeps mask) shuffled ∙ by (some-summed (keeps mask) (numbered 0 ds)) (λ t. t) (λ t. absurd (all t))
     where
       all : some-summed (keeps mask) (numbered 0 ds) ≡ false → ⊥
       all t =
           let a = all-at (λ d x. keeps mask d ≡ true) 0 ds (none-summed (keeps mask) (numbered 0 ds) t) in
-          let p = pow-pos (length ds) in
-          let q = all-kept (length ds) mask (omega arith) (λ d l. rw (zero-add d) at (a d l)) in
+          let p = pow-pos n in
+          let q = all-kept n mask (omega arith) (λ d l. rw (zero-add d) at (a d l)) in
           unfold fullMask in omega arith
 
   pub order-way : Way (length ds)
@@ -230,7 +253,7 @@ module _ (ds o : List ℕ) (s : Shuffled (named (lengthOf ds) o) (numbered 0 ds)
         axis = λ mask. lastSummed (keeps mask) 0 o;
         within = λ mask h.
             rw (named-numbers (lengthOf ds) o) at
-            (last-below (keeps mask) (length ds) 0 along (some-axis (length ds) mask h) (all-along (λ d x. d < length ds) ds s (λ d l. l)));
+            (last-below (keeps mask) n 0 along (some-axis n mask h) (all-along (λ d x. d < n) ds shuffled (λ d l. l)));
         summed = λ mask h. rw (named-numbers (lengthOf ds) o) at (last-summed (keeps mask) 0 along (below-some mask h));
       }
 
@@ -238,38 +261,95 @@ module _ (ds o : List ℕ) (s : Shuffled (named (lengthOf ds) o) (numbered 0 ds)
   unfolding order-way
   order-way-axis mask = refl
 
-  module _ (price e : ℕ → ℕ) (b : ℕ) (d : Falls b (each e along)) where
-    least-along : (mask : ℕ) → mask < fullMask (length ds) → leastKey none (keeps mask) (keyed e (numbered 0 ds)) ≡ some (e (lastSummed (keeps mask) 0 o))
-    least-along mask h =
-        let k = keeps mask in
-        let z : _≡_ {A = ℕ → Bool} k (λ d. k (0 + d)) = fun-ext (λ d. ap k (sym (zero-add d))) in
-        let f = rw (named-numbers (lengthOf ds) o) at (first-least k e b 0 along d (below-some mask h)) in
-        ap (λ (g : ℕ → Bool). leastKey none g (keyed e (numbered 0 ds))) z ∙ least-typed k e none 0 ds ∙ sym (least-shuffled k e s none) ∙ f
+  -- ---- what that way costs
 
-    cheapest-along : (mask : ℕ) → mask < fullMask (length ds)
-        → cheapest price none 1 (keyed e (numbered 0 ds)) mask ≡ cells ds mask * price (e (lastSummed (keeps mask) 0 o))
+  -- the places from an axis's own on: this falls along any order, so that of the axes summed the last has the least
+  left : ℕ → ℕ
+  left d = n - find d o
+
+  left-falls : Falls n (each left along)
+  unfolding left
+  left-falls =
+      rw (each-along (lengthOf ds) o left, places)
+      (falls-table (λ i. left (getD o i 0)) n 0 n (λ i h l. rw (here i (omega arith), here (suc i) (omega arith)) (omega arith)) (omega arith))
+    where
+      here : (i : ℕ) → i < n → find (getD o i 0) o ≡ i
+      here i h = find-get o i (rw places h) (once _ (once-below n o places once i h))
+
+  least-left : (mask : ℕ) → mask < fullMask n → leastKey none (keeps mask) (keyed left (numbered 0 ds)) ≡ some (left (lastSummed (keeps mask) 0 o))
+  least-left mask h =
+      let k = keeps mask in
+      let z : _≡_ {A = ℕ → Bool} k (λ d. k (0 + d)) = fun-ext (λ d. ap k (sym (zero-add d))) in
+      let f = rw (named-numbers (lengthOf ds) o) at (first-least k left n 0 along left-falls (below-some mask h)) in
+      ap (λ (g : ℕ → Bool). leastKey none g (keyed left (numbered 0 ds))) z ∙ least-typed k left none 0 ds ∙ sym (least-shuffled k left shuffled none) ∙ f
+
+  module _ (price key : ℕ → ℕ) where
+    -- the price of the axis with so many places left
+    priceLeft : ℕ → ℕ
+    priceLeft zero = 0
+    priceLeft (suc k) = price (key (getD o (n - suc k) 0))
+
+    price-left : (d : ℕ) → d < n → priceLeft (left d) ≡ price (key d)
+    unfolding left priceLeft
+    price-left d h =
+        let c : 0 < count d o = (let q = once d h in omega arith) in
+        let f = find-lt d o c in
+        let k : n - find d o ≡ suc (n - suc (find d o)) = omega arith in
+        let i : n - suc (n - suc (find d o)) ≡ find d o = omega arith in
+        rw (k, i, get-find d o c) refl
+
+    cheapest-left : (mask : ℕ) → mask < fullMask n → cheapest priceLeft none 1 (keyed left (numbered 0 ds)) mask ≡ cells ds mask * price (key (order-way .axis mask))
     unfolding cheapest rate
-    cheapest-along mask h = rw (keyed-lens e (numbered 0 ds), numbered-lengths 0 ds, one-mul, least-along mask h) refl
+    cheapest-left mask h =
+        let p = price-left _ (order-way .within mask h) in
+        rw (keyed-lens left (numbered 0 ds), numbered-lengths 0 ds, one-mul, least-left mask h, ← order-way-axis mask, p) refl
 
-    -- Where keys fall along the order, its tree is the cheapest way. `f` is what a choice costs by that way.
-    pub attained : (f : ℕ → ℕ) → price 0 ≡ 0 → ((mask : ℕ) → mask < fullMask (length ds) → f mask ≡ cells ds mask * price (e (lastSummed (keeps mask) 0 o)))
-        → sumN (fullMask (length ds)) f ≡ tree price 0 1 (keyed e along)
-    attained f z g =
-        let n = numbered 0 ds in
-        let l : lens (keyed e n) ≡ ds = keyed-lens e n ∙ numbered-lengths 0 ds in
-        let q : length (keyed e n) ≡ length ds = sym (lens-length (keyed e n)) ∙ ap length l in
-        let c : cost price none 1 (keyed e along) ≡ cost price none 1 (keyed e n) = cost-shuffled price e s none 1 in
-        let h : cost price none 1 (keyed e along) ≡ tree price 0 1 (keyed e along) = falling-tree price b 1 (keyed e along) z (rw keyed-keys d) in
-        rw (← h, c, cost-below, q) (sumN-cong (fullMask (length ds)) (λ mask r. g mask r ∙ sym (cheapest-along mask r)))
+    -- The tree of the order costs its sum over every set of summed axes. `f` is what a choice costs by that way.
+    pub order-costs : price 0 ≡ 0 → (f : ℕ → ℕ) → ((mask : ℕ) → mask < fullMask n → f mask ≡ cells ds mask * price (key (order-way .axis mask)))
+        → sumN (fullMask n) f ≡ tree price 0 1 (table n (axis (λ i. lengthOf ds (getD o i 0)) (λ i. key (getD o i 0))))
+    order-costs z f g =
+        let t = numbered 0 ds in
+        let l : lens (keyed left t) ≡ ds = keyed-lens left t ∙ numbered-lengths 0 ds in
+        let q : length (keyed left t) ≡ n = sym (lens-length (keyed left t)) ∙ ap length l in
+        let c : cost priceLeft none 1 (keyed left along) ≡ cost priceLeft none 1 (keyed left t) = cost-shuffled priceLeft left shuffled none 1 in
+        let h : cost priceLeft none 1 (keyed left along) ≡ tree priceLeft 0 1 (keyed left along) =
+        falling-tree priceLeft n 1 (keyed left along) (unfold priceLeft in refl) (rw keyed-keys left-falls) in
+        let u : tree priceLeft 0 1 (keyed left along) ≡ tree price 0 1 (keyed key along) =
+        tree-same priceLeft price left key 0 0 1 along (unfold priceLeft in sym z) (all-along (λ d x. priceLeft (left d) ≡ price (key d)) ds shuffled price-left) in
+        let v : keyed key along ≡ table n (axis (λ i. lengthOf ds (getD o i 0)) (λ i. key (getD o i 0))) = rw places at (keyed-along (lengthOf ds) o key) in
+        rw (← v, ← u, ← h, c, cost-below, q) (sumN-cong (fullMask n) (λ mask r. g mask r ∙ sym (cheapest-left mask r)))
+
+-- a plan's own tree moves, with its exponents, and adds up what the plan says
+module _ (a : PlanLists) (places : length (a .order) ≡ length (a .lengths)) (once : (d : ℕ) → d < length (a .lengths) → count d (a .order) ≡ 1) where
+  abbrev own : Way (length (a .lengths))
+  own = order-way (a .lengths) (a .order) places once
+
+  pub own-moves : costBy (λ d. 1) (a .lengths) (a .exponents) own ≡ Plans.moved a
+  unfolding costBy Plans.moved
+  own-moves =
+      order-costs (a .lengths) (a .order) places once sent (λ d. getD (a .exponents) d 0) sent-zero _ (λ mask h. mul-one _)
+      ∙ sym (moved-tree (length (a .lengths)) (lengthAt a) (exponentAt a))
+
+  pub own-adds : addedBy (a .lengths) own ≡ Plans.added a
+  unfolding addedBy Plans.added
+  own-adds =
+      order-costs (a .lengths) (a .order) places once (λ k. k) (lengthOf (a .lengths)) refl _
+      (λ mask h. parent-cells (a .lengths) mask _ (own .within mask h) (own .summed mask h))
+      ∙ sym (added-tree (length (a .lengths)) (lengthAt a))
 
 -- ---- the planner's tree
 
 pub tree-way : (ds : List ℕ) → Way (length ds)
-tree-way ds = order-way ds (order ds) (planner-shuffled ds)
+tree-way ds = order-way ds (order ds) (order-length ds) (order-once ds)
 
 pub tree-way-axis : (ds : List ℕ) (mask : ℕ) → (tree-way ds) .axis mask ≡ treeAxis ds mask
 unfolding tree-way order-way treeAxis
 tree-way-axis ds mask = refl
+
+-- it adds up what the plan says
+pub adds-attained : (ds : List ℕ) (p : ℕ) → addedBy ds (tree-way ds) ≡ Plans.added (planOf ds p)
+unfolding tree-way planOf
+adds-attained ds p = own-adds (planOf ds p) (order-length ds) (order-once ds)
 
 -- ---- the exponents are a division
 
@@ -320,19 +400,5 @@ module _ (ds : List ℕ) (p : ℕ) where
 
   -- the tree with the planner's exponents moves what the plan says
   pub moves-attained : (e : Division ds p) → movedBy ds (tree-division e) (tree-way ds) ≡ Plans.moved (planOf ds p)
-  unfolding movedBy costBy tree-way order-way tree-division exponent planned Plans.moved planOf
-  moves-attained e =
-      let (b, d) = exponents-fall ds p in
-      attained ds (order ds) (planner-shuffled ds) sent exponent b (rw each-exponent d) _ sent-zero (λ mask h. mul-one _)
-      ∙ ap (tree sent 0 1) (keyed-along (lengthOf ds) (order ds) exponent)
-      ∙ rw order-length (sym (moved-tree (length ds) _ (exponentAt (planOf ds p))))
-
--- and adds up what the plan says
-pub adds-attained : (ds : List ℕ) (p : ℕ) → addedBy ds (tree-way ds) ≡ Plans.added (planOf ds p)
-unfolding addedBy tree-way order-way Plans.added planOf orderedLength
-adds-attained ds p =
-    let a : each (lengthOf ds) (named (lengthOf ds) (order ds)) ≡ sorted ds = each-along (lengthOf ds) (order ds) (lengthOf ds) ∙ rw order-length (sym (ordered-table ds) ∙ ordered-sorted ds) in
-    attained ds (order ds) (planner-shuffled ds) (λ k. k) (lengthOf ds) (largest ds) (rw a (sorted-falls ds)) _ refl
-    (λ mask h. parent-cells ds mask _ ((tree-way ds) .within mask h) ((tree-way ds) .summed mask h))
-    ∙ ap (tree (λ k. k) 0 1) (keyed-along (lengthOf ds) (order ds) (lengthOf ds))
-    ∙ rw order-length (sym (added-tree (length ds) _))
+  unfolding movedBy tree-way tree-division planOf
+  moves-attained e = own-moves (planOf ds p) (order-length ds) (order-once ds)

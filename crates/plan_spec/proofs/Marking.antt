@@ -1,6 +1,6 @@
 -- The mark of a plan, 12/12: yes where no way adds up fewer cells than the plan, no where the planner's tree does.
-use Prim.Native.Nat.{ℕ, zero, suc, _+_, _-_, _*_, _≤_, _<_, min}
-use mathlib.Core.Path.{_≡_, _∙_, ap, sym, refl}
+use Prim.Native.Nat.{ℕ, suc, _+_, _-_, _*_, _≤_, _<_, min}
+use mathlib.Core.Path.{_≡_, _∙_, sym, refl}
 use mathlib.Core.Bool.{Bool, true, false}
 use mathlib.Core.List.{List, [], _∷_}
 use mathlib.Core.Option.{none, some}
@@ -8,33 +8,28 @@ use native.Mathlib.Omega.{arith}
 use native.Mathlib.Decide.{decLe}
 use native.Mathlib.Nat.{mul-le-mul-left, mul-le-mul, le-refl, add-le-add, min-eq-left, min-eq-right}
 use borrow.Author.Tests.{eq-eqb, ne-eqb, leb-true, le-leb}
-use lib.Dec.{leb}
-use lib.ListN.{length, getD, replicate}
+use lib.ListN.{length, replicate}
 use Rattle.cube_spec.specs.Boxes.{tableFrom, table}
-use Rattle.cube_spec.specs.Choices.{withMask, keeps, cells, lengthOf}
+use Rattle.cube_spec.specs.Choices.{lengthOf}
 use Rattle.cube_spec.specs.Ways.{Way, sumList, addedBy}
 use Rattle.cube_spec.proofs.Sums.{by}
 use Rattle.cube_spec.proofs.Naturals.{clash}
 use Rattle.cube_spec.proofs.Slots.{table-here}
-use Rattle.cube_spec.proofs.Masks.{parent-cells}
-use Rattle.cube_spec.proofs.Axes.{Axis, keys, tree, axis, added-tree}
+use Rattle.cube_spec.proofs.Axes.{Axis, keys, tree, added-tree}
 use Rattle.plan_spec.specs.Plans as Plans
-use Rattle.plan_spec.specs.Plans.{PlanLists, count, find, lengthAt}
+use Rattle.plan_spec.specs.Plans.{PlanLists, count, lengthAt}
 use Rattle.plan_spec.specs.Rule.{Typed, numbered, order, orderedLength, planOf}
-use Rattle.plan_spec.specs.Trees.{lastSummed}
 use Rattle.plan_spec.specs.Refusals.{all}
-use Rattle.plan_spec.specs.Answers.{neverRise, fewestAdded}
+use Rattle.plan_spec.specs.Answers.{steadyAt, neverRise, fewestAdded}
 use Rattle.plan_spec.specs.Marking.{Marking}
 use Rattle.plan_spec.proofs.Sorted.{Falls}
 use Rattle.plan_spec.proofs.Cost.{lower, rate, cost, falling-tree}
-use Rattle.plan_spec.proofs.Orders.{find-lt, get-find, find-get, once-below}
 use Rattle.plan_spec.proofs.Shuffled.{Shuffled, All}
 use Rattle.plan_spec.proofs.Places.{falls-at, lengths-fall, order-length, order-once, all-along}
 use Rattle.plan_spec.proofs.Named.{named, once-shuffled}
 use Rattle.plan_spec.proofs.Judging.{all-true, all-each}
 use Rattle.plan_spec.proofs.Least.{adds-least}
-use Rattle.plan_spec.proofs.Attained.{each, keyed, keyed-keys, each-along, keyed-along, cost-shuffled, order-way, order-way-axis, attained, tree-way, tree-way-axis, adds-attained}
-use Rattle.plan_spec.proofs.Tools.{add-same}
+use Rattle.plan_spec.proofs.Attained.{keyed, keyed-keys, each-along, keyed-along, cost-shuffled, falls-table, order-way, order-way-axis, own-adds, tree-way, tree-way-axis, adds-attained}
 
 -- ---- yes and no, computed: equal neighbours count as yes, and lengths alone decide, not axis numbers or exponents
 
@@ -122,35 +117,20 @@ none-rise c (a ∷ r) h f n =
 -- ---- neighbours along the order
 
 module _ (len : ℕ → ℕ) where
-  falls-table : (m d b : ℕ) → ((i : ℕ) → d ≤ i → suc i < d + m → len (suc i) ≤ len i) → len d ≤ b → Falls b (tableFrom m d len)
-  unfolding Falls tableFrom
-  falls-table zero d b h l = tt
-  falls-table (suc zero) d b h l = (l, tt)
-  falls-table (suc (suc m)) d b h l =
-      let q : d + 1 ≡ suc d = omega arith in
-      (l, falls-table (suc m) (d + 1) (len d) (λ i r s. h i (omega arith) (omega arith)) (rw q (h d (le-refl d) (omega arith))))
-
   module _ (n : ℕ) where
     yes-falls : neverRise n len ≡ true → Falls (len 0) (table n len)
     unfolding neverRise
-    yes-falls e = falls-table n 0 (len 0) (λ i h l. leb-true _ _ (all-true (λ i. leb (len (suc i)) (len i)) (n - 1) e i (omega arith))) (le-refl _)
+    yes-falls e = falls-table len n 0 (len 0) (λ i h l. leb-true _ _ (all-true (steadyAt len) (n - 1) e i (omega arith))) (le-refl _)
 
     no-falls : neverRise n len ≡ false → (k : ℕ) → Falls k (table n len) → ⊥
     unfolding neverRise
     no-falls e k f =
-        clash (sym (all-each (λ i. leb (len (suc i)) (len i)) (n - 1) (λ i l. le-leb _ _ (steady i (omega arith)))) ∙ e)
+        clash (sym (all-each (steadyAt len) (n - 1) (λ i l. le-leb _ _ (steady i (omega arith)))) ∙ e)
       where
         steady : (i : ℕ) → suc i < n → len (suc i) ≤ len i
         steady i l = rw (table-here n len (suc i) l, table-here n len i (omega arith)) at (falls-at k (table n len) f i)
 
 -- ---- what the tree of an order adds up
-
--- with other keys of the same prices it is the same tree
-tree-keys : (price e f : ℕ → ℕ) (k j c : ℕ) (l : List Typed) → price k ≡ j → All (λ t. price (e (t .num)) ≡ f (t .num)) l
-    → tree price k c (keyed e l) ≡ tree plain j c (keyed f l)
-unfolding tree keyed All
-tree-keys price e f k j c [] z h = ap (λ x. c * x) z
-tree-keys price e f k j c (t ∷ r) z h = add-same (tree-keys price e f k j (c * t .len) r z (h .1)) (tree-keys price e f (e (t .num)) (f (t .num)) c r (h .0) (h .1))
 
 filled-keyed : (e : ℕ → ℕ) (l : List Typed) → All (λ t. 1 ≤ t .len) l → Filled (keyed e l)
 unfolding Filled keyed All
@@ -180,55 +160,9 @@ module _ (a : PlanLists) (places : length (a .order) ≡ length (a .lengths)) (o
   shuffled : Shuffled along (numbered 0 ds)
   shuffled = once-shuffled ds (a .order) places once
 
-  -- ---- the plan's own tree
-
-  own-way : Way (length (a .lengths))
-  own-way = order-way ds (a .order) shuffled
-
-  -- the places from an axis's own on: this falls along any order, so the last axis summed has the least
-  left : ℕ → ℕ
-  left d = n - find d (a .order)
-
-  -- the length of the axis with so many places left
-  lengthLeft : ℕ → ℕ
-  lengthLeft zero = 0
-  lengthLeft (suc k) = len (getD (a .order) (n - suc k) 0)
-
-  left-falls : Falls n (each left along)
-  unfolding left
-  left-falls =
-      rw (each-along len (a .order) left, places)
-      (falls-table (λ i. left (getD (a .order) i 0)) n 0 n (λ i h l. rw (here i (omega arith), here (suc i) (omega arith)) (omega arith)) (omega arith))
-    where
-      here : (i : ℕ) → i < n → find (getD (a .order) i 0) (a .order) ≡ i
-      here i h = find-get (a .order) i (rw places h) (once _ (once-below n (a .order) places once i h))
-
-  left-length : (d : ℕ) → d < n → lengthLeft (left d) ≡ len d
-  unfolding left lengthLeft
-  left-length d h =
-      let c : 0 < count d (a .order) = (let q = once d h in omega arith) in
-      let f = find-lt d (a .order) c in
-      let k : n - find d (a .order) ≡ suc (n - suc (find d (a .order))) = omega arith in
-      let i : n - suc (n - suc (find d (a .order))) ≡ find d (a .order) = omega arith in
-      rw (k, i, get-find d (a .order) c) refl
-
   plan-tree : Plans.added a ≡ tree plain 0 1 (keyed len along)
   unfolding Plans.added
   plan-tree = rw (keyed-along len (a .order) len, places) (added-tree n _)
-
-  -- it adds up what the plan says
-  own-added : addedBy ds own-way ≡ Plans.added a
-  unfolding addedBy own-way
-  own-added =
-      attained ds (a .order) shuffled lengthLeft left n left-falls _ (unfold lengthLeft in refl) (λ mask h. each-choice mask (own-way .within mask h) (own-way .summed mask h))
-      ∙ tree-keys lengthLeft left len 0 0 1 along (unfold lengthLeft in refl) (all-along (λ d x. lengthLeft (left d) ≡ len d) ds shuffled left-length)
-      ∙ sym plan-tree
-    where
-      each-choice : (mask : ℕ) → own-way .axis mask < n → keeps mask (own-way .axis mask) ≡ false
-          → cells ds (withMask mask (own-way .axis mask)) ≡ cells ds mask * lengthLeft (left (lastSummed (keeps mask) 0 (a .order)))
-      each-choice mask w s =
-          parent-cells ds mask _ w s
-          ∙ ap (λ x. cells ds mask * x) (sym (left-length _ w) ∙ ap (λ x. lengthLeft (left x)) (order-way-axis ds (a .order) shuffled mask))
 
   -- ---- the cheapest parents, whatever the order
 
@@ -266,9 +200,9 @@ marking a places once h =
     let no : fewestAdded a ≡ false → best < Plans.added a = λ e. rw planned-cost (no-cost a places once h e) in
     record {
       test = unfold fewestAdded in refl;
-      own = own-way a places once;
-      own-axes = λ choice r. (unfold own-way in order-way-axis ds (a .order) (shuffled a places once) choice);
-      own-adds = own-added a places once;
+      own = order-way ds (a .order) places once;
+      own-axes = λ choice r. order-way-axis ds (a .order) places once choice;
+      own-adds = own-adds a places once;
       best = tree-way ds;
       best-axes = λ choice r. tree-way-axis ds choice;
       best-adds = adds-attained ds;

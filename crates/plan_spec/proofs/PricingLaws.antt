@@ -1,7 +1,7 @@
 -- Laws of pricing: the recursion over undecided axes gives the sums over every set, and stays far below 2^64.
 use Prim.Native.Nat.{ℕ, zero, suc, _+_, _-_, _*_, _%_, _^_, _≤_, _<_}
 use mathlib.Core.Path.{_≡_, sym, _∙_, refl, ap, ap₂}
-use mathlib.Core.Bool.{Bool, true, false}
+use mathlib.Core.Bool.{true, false}
 use mathlib.Core.List.{List, [], _∷_}
 use native.Mathlib.Nat.{one-mul, mul-one, mul-assoc, mul-right-comm, mul-le-mul, mul-le-mul-left, mul-le-mul-right, le-trans, mod-eq-of-lt, div-le-of-le-mul, le-div-iff-mul-le, pow-succ', sub-zero}
 use native.Mathlib.Numerals.{add-one}
@@ -30,7 +30,7 @@ use Rattle.plan_spec.specs.Plans as Plans
 use Rattle.plan_spec.specs.Plans.{lengthAt, exponentAt, mostAt, listsOf}
 use Rattle.plan_spec.specs.Refusals.{all}
 use Rattle.plan_spec.specs.Accepted.{Accepted}
-use Rattle.plan_spec.specs.Answers.{pricesOf, neverRise, fewestAdded}
+use Rattle.plan_spec.specs.Answers.{pricesOf, steadyAt, neverRise, fewestAdded}
 use Rattle.plan_spec.specs.Pricing.{movedFrom, addedFrom, mostOf, Priceable, Undecided}
 use Rattle.plan_spec.proofs.Orders.{order-below, product-order}
 use Rattle.plan_spec.proofs.Judging.{all-same, all-next, all-fails, all-end}
@@ -381,19 +381,16 @@ module _ (q : Plan) (ok : Accepted q) where
 -- ---- the mark, as a loop over neighbours finds it: the first i of them do not rise
 
 module _ (len : ℕ → ℕ) (n i : ℕ) where
-  abbrev steady : ℕ → Bool
-  steady i = leb (len (suc i)) (len i)
-
-  pub steady-next : all i steady ≡ true → len (i + 1) ≤ len i → all (i + 1) steady ≡ true
-  steady-next e h = all-next steady i e (le-leb _ _ (rw add-one at h))
+  pub steady-next : all i (steadyAt len) ≡ true → len (i + 1) ≤ len i → all (i + 1) (steadyAt len) ≡ true
+  steady-next e h = all-next (steadyAt len) i e (le-leb _ _ (rw add-one at h))
 
   pub rises : i + 1 < n → len i < len (i + 1) → neverRise n len ≡ false
   unfolding neverRise
-  rises l h = all-fails steady (n - 1) i (omega arith) (lt-leb _ _ (rw add-one at h))
+  rises l h = all-fails (steadyAt len) (n - 1) i (omega arith) (lt-leb _ _ (rw add-one at h))
 
-  pub steady-end : i ≤ n - 1 → n ≤ i + 1 → all i steady ≡ true → neverRise n len ≡ true
+  pub steady-end : i ≤ n - 1 → n ≤ i + 1 → all i (steadyAt len) ≡ true → neverRise n len ≡ true
   unfolding neverRise
-  steady-end h k e = all-end steady (n - 1) i h (omega arith) e
+  steady-end h k e = all-end (steadyAt len) (n - 1) i h (omega arith) e
 
 -- ---- the entry's answer
 

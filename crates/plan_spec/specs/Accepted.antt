@@ -23,6 +23,10 @@ pub record PlanningAccepted (ds : List ℕ) (p : ℕ) : Type 0 where
   pub boards : p ≤ powerLimit
   pub enough : p ≤ room ds
 
+-- a plan's arrays have their slots, as every plan that a machine holds
+abbrev pub HasSlots : Plan → Type 0
+HasSlots q = (length (q .lengths) ≡ axisLimit) × ((length (q .order) ≡ axisLimit) × (length (q .exponents) ≡ axisLimit))
+
 -- "Array slots past the last axis are zero."
 abbrev pub Spare : ℕ → List ℕ → Type 0
 Spare n slots = (d : ℕ) → n ≤ d → getD slots d 0 ≡ 0

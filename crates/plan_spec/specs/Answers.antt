@@ -22,8 +22,11 @@ unfoldable pub pricesOf : PlanLists → Prices
 pricesOf a = record { moved = moved a; added = added a; share = shareSize a }
 
 -- "lengths never rise along the order": of n lengths, none is more than the one before it
+abbrev pub steadyAt : (ℕ → ℕ) → ℕ → Bool
+steadyAt len i = leb (len (suc i)) (len i)
+
 unfoldable pub neverRise : ℕ → (ℕ → ℕ) → Bool
-neverRise n len = all (n - 1) (λ i. leb (len (suc i)) (len i))
+neverRise n len = all (n - 1) (steadyAt len)
 
 -- the mark, yes or no to "fewest cells added up": "It must say yes exactly when lengths never rise along the order"
 unfoldable pub fewestAdded : PlanLists → Bool

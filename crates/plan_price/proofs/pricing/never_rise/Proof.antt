@@ -1,18 +1,18 @@
 -- `plan_price::pricing::never_rise` meets its contract: neighbours one after the other, of which the first i do not rise.
-use Prim.Native.Nat.{_-_, _≤_, suc, zero-le}
+use Prim.Native.Nat.{_-_, _≤_, zero-le}
 use mathlib.Core.Path.{_≡_, refl, sym}
 use mathlib.Core.Bool.{true}
 use native.Mathlib.Omega.{arith}
-use lib.Dec.{leb}
 use Rattle.cube_spec.specs.Choices.{lengthOf}
 use Rattle.plan_spec.specs.Refusals.{all}
+use Rattle.plan_spec.specs.Answers.{steadyAt}
 use Rattle.plan_spec.proofs.Turns.{fits-fours, fits-next}
 use Rattle.plan_spec.proofs.PricingLaws.{steady-next, rises, steady-end}
 use Rattle.plan_price.proofs.pricing.never_rise.Statement.{statement}
 use Rattle.plan_price.proofs.pricing.never_rise.Tie as tie
 
 abbrev Inv-loop : tie.InvT-loop
-Inv-loop n lengths i₀ i = (i ≤ n - 1) × (all i (λ i. leb (lengthOf lengths (suc i)) (lengthOf lengths i)) ≡ true)
+Inv-loop n lengths i₀ i = (i ≤ n - 1) × (all i (steadyAt (lengthOf lengths)) ≡ true)
 
 abbrev μ-loop : tie.MeasureT-loop
 μ-loop n lengths i₀ i = n - i
