@@ -46,6 +46,7 @@ extern "C" {
 #define CAMPAIGN_POINTS 16777216    /* the most points */
 #define CAMPAIGN_HIGHEST_P 10       /* the highest p: a rack has at most 1,024 boards */
 #define CAMPAIGN_TAPE_BYTES 65536   /* the longest tape */
+#define CAMPAIGN_HIGHEST_LINK 1000  /* the highest weight of a link; the lowest is 1 */
 
 /* ---- refusals, in the order in which they are judged ------------------------------------- */
 
@@ -60,6 +61,9 @@ extern "C" {
 #define CAMPAIGN_BAD_LENGTH 4       /* an axis length is 0 or over 65,535 */
 #define CAMPAIGN_TOO_MANY_POINTS 5  /* the product of the lengths is over 16,777,216 */
 #define CAMPAIGN_TOO_MANY_BOARDS 6  /* p is over 10 */
+#define CAMPAIGN_NO_BUDGET 18       /* a search over links is given a budget of 0 */
+#define CAMPAIGN_BAD_LINKS 19       /* a link weight is 0 or over 1,000, or there is not one for each
+                                       axis */
 #define CAMPAIGN_NO_ROOM 7          /* retired, no function returns it: where the axes cannot be
                                        divided for 2^p boards, fewer are used */
 #define CAMPAIGN_BAD_ORDER 8        /* the order does not name each axis once, or a slot past the
@@ -116,6 +120,20 @@ struct campaign_prices {
     uint64_t fewest; /* 1: no selection of parents adds up fewer cells; 0: some selection does */
 };
 
+/*
+ * A division of the axes that a search over links found, and how far it may be from the best. Each
+ * axis has a link weight, and a value that is moved costs the weight of the axis being summed.
+ * cost is what the division costs with the cheapest parent for every choice. No division for the
+ * same boards, with any parents, costs less than cost - distance; where distance is 0, none costs
+ * less at all.
+ */
+struct campaign_division {
+    uint64_t cost;
+    uint64_t distance;
+    uint64_t priced;                  /* how many divisions were priced */
+    uint8_t exponents[CAMPAIGN_AXES]; /* by axis number; 0 past the last axis */
+};
+
 enum campaign_kind {
     CAMPAIGN_EXPAND = 1,   /* a choice's cells are summed into those of all its children */
     CAMPAIGN_TRANSFER = 2, /* one board's cells of a choice are added to those of a lead */
@@ -161,6 +179,7 @@ struct campaign_tape {
 #define CAMPAIGN_PLAN_BYTES (2 + 2 * CAMPAIGN_AXES)
 #define CAMPAIGN_PRICES_CELLS 4                    /* moved, added, share, fewest */
 #define CAMPAIGN_MAKE_CELLS 4                      /* moved, added, share, idle */
+#define CAMPAIGN_SEARCH_CELLS (3 + CAMPAIGN_AXES)  /* cost, distance, priced, exponents */
 #define CAMPAIGN_STEP_CELLS 5                      /* kind, sender, receiver, choice, values */
 #define CAMPAIGN_PART_CELLS 2                      /* start, cells */
 #define CAMPAIGN_TAPE_CELLS (4 + CAMPAIGN_AXES)    /* axes, p, points, commands, lengths */
@@ -191,6 +210,11 @@ uint8_t campaign_idle(const uint8_t *lengths, size_t lengths_len, uint8_t p,
 uint8_t campaign_make(const uint32_t *lengths, size_t lengths_len, uint8_t p,
                       uint8_t *plan, size_t plan_len, uint32_t *slots, size_t slots_len,
                       uint64_t *cells, size_t cells_len);
+
+/* The search over links: see campaign_link_search. */
+uint8_t campaign_search(const uint32_t *lengths, size_t lengths_len, uint8_t p,
+                        const uint32_t *links, size_t links_len, uint64_t budget,
+                        uint64_t *cells, size_t cells_len);
 
 /* Pricing: see campaign_plan_price. CAMPAIGN_PRICES_CELLS cells, of which the last is 1 or 0. */
 uint8_t campaign_price(const uint8_t *plan, size_t plan_len,
@@ -306,6 +330,43 @@ static inline uint8_t campaign_plan_price(const struct campaign_rack_plan *plan,
         prices->added = cells[1];
         prices->share = cells[2];
         prices->fewest = cells[3];
+    }
+    return refusal;
+}
+
+/*
+ * Searches the divisions of a campaign for a rack of 2^p boards in which some axes are spread over
+ * a slow link. `links` has the axes' link weights, from 1 to 1,000, in axis order. Divisions of the
+ * boards in use (2^p, or 2^F where p is over F, as in campaign_plan_make) are priced in ascending
+ * order of their exponents, read in axis order, the first `budget` of them or all that there are.
+ * The answer is the first cheapest of these.
+ *
+ * The search may be stopped anywhere: a larger budget never gives a higher cost or a higher
+ * distance, and with UINT64_MAX the answer is the cheapest of all. found->distance is 0 once all
+ * divisions are priced. Before, it is the cost less the least weight for each value that the
+ * planner's plan moves: to know that an answer is within a tenth of the best, look for
+ * distance <= (cost - distance) / 10. At most 8 axes and 1,024 boards have some thousands of
+ * divisions.
+ *
+ * To run an answer, fill in a plan by hand with its exponents and an order along which
+ * (2^k - 1) * weight never rises, k being an axis's exponent. Each choice is then formed from its
+ * cheapest parent, and what the transfers move costs found->cost. examples/links.c does that.
+ * Refusals 3 to 6, 18, 19.
+ */
+static inline uint8_t campaign_link_search(const uint32_t *lengths, size_t axes, uint8_t p,
+                                           const uint32_t *links, size_t links_len,
+                                           uint64_t budget, struct campaign_division *found)
+{
+    uint64_t cells[CAMPAIGN_SEARCH_CELLS];
+    uint8_t refusal = campaign_search(lengths, axes, p, links, links_len, budget, cells,
+                                      CAMPAIGN_SEARCH_CELLS);
+
+    if (refusal == CAMPAIGN_OK) {
+        found->cost = cells[0];
+        found->distance = cells[1];
+        found->priced = cells[2];
+        for (unsigned d = 0; d < CAMPAIGN_AXES; d++)
+            found->exponents[d] = (uint8_t)cells[3 + d];
     }
     return refusal;
 }

@@ -13,8 +13,10 @@ use Rattle.run_spec.specs.Entries.{stepChecks, viewChecks, gatherChecks, gather
 use Rattle.tape_spec.specs.Reading.{scanChecks, readingChecks, readingRefusal}
 use Rattle.tape_spec.proofs.Refusing.{scan-lacks}
 use Rattle.controller.specs.Bytes.{askedChecks}
+use Rattle.link_spec.specs.Search.{searchChecks}
 use Rattle.campaign_slices.specs.Lent.{lentRefusal}
 use Rattle.campaign_slices.specs.Scans.{lentScanRefusal, openRefusal}
+use Rattle.campaign_slices.specs.Links.{lentSearchRefusal}
 use Rattle.campaign_slices.specs.Racks.{priceRefusal, countRefusal, atChecks, atRefusal, holdRefusal}
 use Rattle.campaign.specs.Calls.{makeRefusal, idleRefusal, runRefusal, partRefusal}
 
@@ -23,7 +25,7 @@ never-lent : (checks : List Check) (due lent : ℕ) → lacks 7 checks ≡ true 
 unfolding lentRefusal lacks
 never-lent checks due lent h = never 7 _ (omega arith) (lacks-both 7 checks _ h refl)
 
--- ---- planning, idle boards and pricing
+-- ---- planning, idle boards, the search over links and pricing
 
 pub never-make : (ds : List ℕ) (p small slots cells : ℕ) → makeRefusal ds p small slots cells ≡ 7 → ⊥
 unfolding makeRefusal planningChecks lengthChecks lacks
@@ -32,6 +34,10 @@ never-make ds p small slots cells = never 7 _ (omega arith) refl
 pub never-idle : (bytes : List ℕ) (p lent : ℕ) → idleRefusal bytes p lent ≡ 7 → ⊥
 unfolding idleRefusal askedChecks planningChecks lengthChecks lacks
 never-idle bytes p lent = never-lent (askedChecks bytes p) 1 lent refl
+
+pub never-search : (ds : List ℕ) (p : ℕ) (links : List ℕ) (budget lent : ℕ) → lentSearchRefusal ds p links budget lent ≡ 7 → ⊥
+unfolding lentSearchRefusal searchChecks planningChecks lengthChecks lacks
+never-search ds p links budget lent = never-lent (searchChecks ds p links budget) 11 lent refl
 
 pub never-price : (q : Plan) (lent : ℕ) → priceRefusal q lent ≡ 7 → ⊥
 unfolding priceRefusal planChecks lengthChecks lacks

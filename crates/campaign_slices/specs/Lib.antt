@@ -1,4 +1,5 @@
 pub mod Lent
 pub mod Scans
 pub mod Racks
+pub mod Links
 pub mod Computing

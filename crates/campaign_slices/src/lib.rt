@@ -9,6 +9,8 @@ ghost use Rattle.rack_spec.specs.Answers.{told};
 ghost use Rattle.campaign_slices.specs.Lent.{lentRefusal, writtenOr};
 ghost use Rattle.campaign_slices.specs.Scans.{cells, cellsOf};
 ghost use Rattle.campaign_slices.specs.Racks.{noPlan, planFrom, bytesOf, cellsTold, cellsPriced, markCell};
+ghost use Rattle.campaign_slices.specs.Links.{searchCells, cellsSearched};
+use link_spec::types::Searched;
 use plan_spec::types::Marked;
 use plan_spec::types::Plan;
 use plan_spec::types::Prices;
@@ -17,6 +19,9 @@ use tape_spec::types::Scan;
 
 // The cells of a scan.
 pub const SCAN_CELLS: usize = 12;
+
+// The cells of what a search found.
+pub const SEARCH_CELLS: usize = 11;
 
 // Puts the lengths in the cells from 4 on.
 fn put(out: &mut [u64], lengths: [u32; 8])
@@ -226,5 +231,31 @@ pub fn put_pair(out: &mut [u64], a: u64, b: u64) -> u8
     }
     out[0] = a;
     out[1] = b;
+    0
+}
+
+// Puts the exponents in the cells from 3 on.
+fn put_exponents(out: &mut [u64], exponents: [u8; 8])
+    requires { ⌜ length (now out) ≡ searchCells ⌝ }
+    ensures { λ _. ⌜ now (out .exit) ≡ sets (now (out .entry)) 3 exponents ⌝ }
+{
+    for i in 0..8 {
+        out[3 + i] = exponents[i] as u64;
+    }
+}
+
+// Puts what a search found in a slice of eleven cells.
+pub fn put_searched(out: &mut [u64], found: Searched) -> u8
+    ensures { λ r. ⌜ (r ≡ lentRefusal [] searchCells (length (now (out .entry))))
+        × (now (out .exit) ≡ writtenOr r (cellsSearched found) (now (out .entry))) ⌝ }
+{
+    if out.len() != SEARCH_CELLS {
+        return 13;
+    }
+    out[0] = found.cost;
+    out[1] = found.distance;
+    out[2] = found.priced;
+    let exponents = found.exponents;
+    put_exponents(out, exponents);
     0
 }

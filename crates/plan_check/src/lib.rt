@@ -63,7 +63,7 @@ pub fn lengths_refusal(lengths: [u32; 8], axes: u8) -> u8
 }
 
 // floor(log2 d), by halving.
-fn log2_of(d: u32) -> u32
+pub fn log2_of(d: u32) -> u32
     ensures { λ r. ⌜ (r ≡ log2 d) × (r < 32) ⌝ }
 {
     let mut left = d;

@@ -40,7 +40,7 @@ module _ (len : ℕ → ℕ) (n : ℕ) (ok : Bounded len n) where
       omega arith
 
   -- and of those before i
-  front-small : (i : ℕ) → i ≤ n → product len i 0 ≤ pointLimit
+  pub front-small : (i : ℕ) → i ≤ n → product len i 0 ≤ pointLimit
   front-small i h =
       let e = cut i h in
       let q = mul-le-mul-left (product len i 0) (some-from (n - i) i (omega arith)) in

@@ -292,7 +292,7 @@ starts-cong n k most most′ same = sumN-cong k (λ i h. product-cong n 0 (λ d 
 
 -- ---- a plan along its order
 
-sum-member : (l : List ℕ) (d : ℕ) → getD l d 0 ≤ sumList l
+pub sum-member : (l : List ℕ) (d : ℕ) → getD l d 0 ≤ sumList l
 unfolding sumList
 sum-member [] d = omega arith
 sum-member (x ∷ l) zero = omega arith

@@ -1,0 +1,2 @@
+// The search for a cheap division over links that cost unequally.
+pub mod searching;

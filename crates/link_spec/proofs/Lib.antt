@@ -1,0 +1,15 @@
+pub mod Listed
+pub mod Cases
+pub mod Winners
+pub mod Listing
+pub mod Cheapest
+pub mod Distance
+pub mod Chain
+pub mod Shares
+pub mod Pricing
+pub mod Stepping
+pub mod Searching
+pub mod Deciding
+pub mod Running
+pub mod Answering
+pub mod Anytime

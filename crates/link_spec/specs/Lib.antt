@@ -1,0 +1,9 @@
+pub mod Divisions
+pub mod Costs
+pub mod Search
+pub mod Accepted
+pub mod Anytime
+pub mod Shares
+pub mod Stepping
+pub mod Trying
+pub mod Computing
