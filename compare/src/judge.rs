@@ -1,5 +1,8 @@
-//! The checking order of lengths, p, plans and points.
+//! The checking order of lengths, p, searches, plans and points.
 
+use std::ops::RangeInclusive;
+
+use crate::links::Request;
 use crate::plan::Plan;
 
 /// A refusal by its number in the checking order.
@@ -10,6 +13,7 @@ pub const MOST_AXES: usize = 8;
 pub const LONGEST_AXIS: u64 = 65_535;
 pub const MOST_POINTS: u64 = 16_777_216;
 pub const HIGHEST_P: u32 = 10;
+pub const LINK_WEIGHTS: RangeInclusive<u64> = 1..=1_000;
 
 /// The program's limit on the points and on the cells of the work area.
 pub const PROGRAM_LIMIT: u64 = 8_192;
@@ -34,6 +38,15 @@ pub fn lengths(lengths: &[u64]) -> Result<(), Refusal> {
 pub fn request(axis_lengths: &[u64], p: u32) -> Result<(), Refusal> {
     lengths(axis_lengths)?;
     refuse_if(p > HIGHEST_P, 6)
+}
+
+/// Refusals 3 to 6, 18 and 19: what a search over links is asked for.
+pub fn search(asked: &Request) -> Result<(), Refusal> {
+    let Request { lengths, p, links, budget } = asked;
+    request(lengths, *p)?;
+    refuse_if(*budget == 0, 18)?;
+    let out_of_range = links.iter().any(|weight| !LINK_WEIGHTS.contains(weight));
+    refuse_if(out_of_range || links.len() != lengths.len(), 19)
 }
 
 /// Refusals 3 to 6, 8 and 9: a plan from anyone.

@@ -4,9 +4,11 @@ use std::str::FromStr;
 use std::{env, io};
 
 use compare::judge::{self, Refusal};
+use compare::links::{Found, Prices, Request};
 use compare::plan::{planning, Plan, Planned};
 use compare::{
     bench, check, description, listed, make, marked, patterns, price, scans, show, table, totals,
+    weighed,
 };
 
 const USAGE: &str = "\
@@ -21,14 +23,20 @@ usage: compare totals                   tape on standard input, totals on standa
                                         a plan's prices, and yes or no to fewest cells added
                                         up; each a list with commas, lengths and exponents by
                                         axis number: compare price 6,2 1,0 0,1
+       compare links P LENGTHS LINKS BUDGET
+                                        the first cheapest of so many divisions of the boards
+                                        in use, and by how much one can be cheaper, where each
+                                        value moved costs the link weight of the axis being
+                                        summed: compare links 3 4,9 1,5 2
        compare tapes SEED N DIR         write N made tapes, each with what is printed for it
        compare check PROGRAM SEED N     run a program on N made tapes and compare
        compare bench [PROGRAM]          time the largest campaigns, each as a whole process
        compare table TOPIC              cases for the definitions, as an antt module:
                                         tapes (with their output), scans (of other
                                         tapes), steps (with what is held), memory (after
-                                        each step), marks (plans with their prices) or
-                                        readings (with what each gives)
+                                        each step), marks (plans with their prices), links
+                                        (searches with their answers) or readings (with what
+                                        each gives)
 
 A report is what is printed for a tape. A campaign as text, for example:
 
@@ -67,6 +75,12 @@ fn run(words: &[&str]) -> Option<io::Result<bool>> {
             print_priced(&Plan { lengths, order, exponents, p });
             done(Ok(()))
         }
+        ["links", p, lengths, links, budget] => {
+            let (lengths, links) = (numbers(lengths)?, numbers(links)?);
+            let (p, budget) = (p.parse().ok()?, budget.parse().ok()?);
+            print_found(&Request { lengths, p, links, budget });
+            done(Ok(()))
+        }
         ["tapes", seed, count, folder] => {
             done(make::write(seed.parse().ok()?, count.parse().ok()?, Path::new(folder)))
         }
@@ -98,6 +112,7 @@ fn module(topic: &str) -> Option<String> {
         "steps" => Some(listed::steps_module()),
         "memory" => Some(listed::memory_module()),
         "marks" => Some(marked::module()),
+        "links" => Some(weighed::module()),
         "readings" => Some(patterns::module()),
         _ => None,
     }
@@ -108,12 +123,28 @@ fn print_plan(planned: Result<Planned, Refusal>) {
         Ok(planned) => planned,
         Err(Refusal(number)) => return println!("refused {number}"),
     };
-    let listed = |items: Vec<String>| items.join(" ");
-    let exponents = plan.order.iter().map(|&axis| plan.exponents[axis].to_string());
-    println!("order {}", listed(plan.order.iter().map(usize::to_string).collect()));
-    println!("exponents {}", listed(exponents.collect()));
+    let exponents = plan.order.iter().map(|&axis| plan.exponents[axis]);
+    println!("order {}", spaced(plan.order.iter().copied()));
+    println!("exponents {}", spaced(exponents));
     print_prices(&plan);
     println!("idle {idle}");
+}
+
+fn spaced<T: ToString>(items: impl Iterator<Item = T>) -> String {
+    items.map(|item| item.to_string()).collect::<Vec<String>>().join(" ")
+}
+
+/// What a search over links answers, or the first check that it fails.
+fn print_found(request: &Request) {
+    if let Err(Refusal(number)) = judge::search(request) {
+        return println!("refused {number}");
+    }
+    let prices = Prices::new(request);
+    let Found { exponents, cost, distance, priced } = prices.found(request.budget);
+    println!("exponents {}", spaced(exponents.iter()));
+    println!("cost {cost}");
+    println!("distance {distance}");
+    println!("priced {priced} of {}", prices.all());
 }
 
 /// Any plan's prices, or the first check that it fails.

@@ -9,7 +9,7 @@ use compare::{make, table, totals};
 
 #[test]
 fn bad_arguments_get_the_usage() {
-    let commands: [&[&str]; 16] = [
+    let commands: [&[&str]; 22] = [
         &[],
         &["sum"],
         &["totals", "x"],
@@ -23,6 +23,12 @@ fn bad_arguments_get_the_usage() {
         &["price", "6,x", "1,0", "0,1"],
         &["price", "6,2,", "1,0", "0,1"],
         &["price", "6,2", "1,-1", "0,1"],
+        &["links", "3", "4,9", "1,5"],
+        &["links", "3", "4,9", "1,5", "2", "1"],
+        &["links", "x", "4,9", "1,5", "2"],
+        &["links", "3", "4 9", "1,5", "2"],
+        &["links", "3", "4,9", "1,-5", "2"],
+        &["links", "3", "4,9", "1,5", "-1"],
         &["tapes", "1", "2"],
         &["check", "true", "1"],
         &["check", "true", "1", "x"],
@@ -89,6 +95,41 @@ fn price_prints_refusals() {
     refused("6,2", "0,1", "0,2", 9);
     refused("6,2", "0,1", "0", 9);
     refused("6,2", "0,1", "0,1,0", 9);
+}
+
+/// What a search over links gets.
+fn found(p: &str, lengths: &str, links: &str, budget: &str) -> String {
+    text(&compare(&["links", p, lengths, links, budget]).stdout)
+}
+
+/// The second axis costs five times the first; then P4 on a rack larger than the campaign.
+#[test]
+fn links_prints_searches_worked_out_by_hand() {
+    let two = "exponents 1 2\ncost 70\ndistance 48\npriced 2 of 3\n";
+    assert_eq!(found("3", "4,9", "1,5", "2"), two);
+    let all = "exponents 2 1\ncost 50\ndistance 0\npriced 3 of 3\n";
+    assert_eq!(found("3", "4,9", "1,5", "3"), all);
+    assert_eq!(found("3", "4,9", "1,5", "18446744073709551615"), all);
+    let idle = "exponents 1 1\ncost 6\ndistance 0\npriced 1 of 1\n";
+    assert_eq!(found("3", "3,2", "1,1", "5"), idle);
+}
+
+/// 3 to 6, 18 and 19, the first of several.
+#[test]
+fn links_prints_refusals() {
+    let refused = |p: &str, lengths: &str, links: &str, budget: &str, number: u8| {
+        assert_eq!(found(p, lengths, links, budget), format!("refused {number}\n"));
+    };
+    refused("11", "", "", "0", 3);
+    refused("11", "4,0", "1", "0", 4);
+    refused("11", "4096,4097", "1", "0", 5);
+    refused("11", "4,9", "1", "0", 6);
+    refused("4294967295", "4,9", "1,5", "1", 6);
+    refused("3", "4,9", "1", "0", 18);
+    refused("3", "4,9", "", "1", 19);
+    refused("3", "4,9", "1,5,1", "1", 19);
+    refused("3", "4,9", "1,1001", "1", 19);
+    refused("3", "4,9", "0,5", "1", 19);
 }
 
 #[test]
