@@ -2,6 +2,7 @@
 
 use std::cell::Cell;
 
+use crate::mislink::Mislink;
 use crate::mismark::Mismark;
 use crate::misplan::Misplan;
 
@@ -10,6 +11,7 @@ pub enum Entry {
     Plan,
     Idle,
     Make,
+    Search,
     Price,
     StepCount,
     StepAt,
@@ -23,10 +25,11 @@ pub enum Entry {
 }
 
 /// What an entry is lent: `Small` and `Lengths` are a plan's two slices, `Asked` the lengths to
-/// plan for, `Array` the points, which a step reads and a tape fills.
+/// plan for, `Links` their link weights, `Array` the points, which a step reads and a tape fills.
 #[derive(Clone, Copy, Debug, PartialEq)]
 pub enum Part {
     Asked,
+    Links,
     Small,
     Lengths,
     Array,
@@ -36,10 +39,11 @@ pub enum Part {
     Result,
 }
 
-/// The calls that have the fault: those that the library takes, those that it refuses, or those
-/// that it refuses by one number.
+/// The calls that have the fault: all, those that the library takes, those that it refuses, or
+/// those that it refuses by one number.
 #[derive(Clone, Copy, Debug, PartialEq)]
 pub enum When {
+    Any,
     Taken,
     Refused,
     By(u8),
@@ -48,6 +52,7 @@ pub enum When {
 impl When {
     fn is(self, answer: u8) -> bool {
         match self {
+            When::Any => true,
             When::Taken => answer == 0,
             When::Refused => answer != 0,
             When::By(number) => answer == number,
@@ -55,9 +60,12 @@ impl When {
     }
 }
 
+/// Answers are below this number.
+pub const ANSWERS: u8 = 20;
+
 #[derive(Clone, Copy, Debug, PartialEq)]
 pub enum Change {
-    /// Another number is answered: so much larger, with 0 after 15.
+    /// Another number is answered: so much larger, with 0 after the last.
     Answer(u8),
     /// 13 is answered ahead of what is due, where the result has the wrong length.
     ResultFirst,
@@ -70,6 +78,16 @@ pub enum Change {
     Miscount(Miscount),
     Misplan(Misplan),
     Mismark(Mismark),
+    Mislink(Mislink),
+}
+
+impl Change {
+    pub const ONE_LESS: Change = Change::Answer(ANSWERS - 1);
+
+    /// What is refused by this number is taken.
+    pub const fn taken(number: u8) -> Change {
+        Change::Answer(ANSWERS - number)
+    }
 }
 
 /// How a scan that is told counts wrongly.
@@ -108,7 +126,7 @@ pub fn planted(entry: Entry, answer: u8) -> Option<Change> {
 /// The answer, or another.
 pub fn told(entry: Entry, answer: u8) -> u8 {
     match planted(entry, answer) {
-        Some(Change::Answer(further)) => (answer + further) % 16,
+        Some(Change::Answer(further)) => (answer + further) % ANSWERS,
         _ => answer,
     }
 }
@@ -133,6 +151,14 @@ pub fn misplan(entry: Entry, answer: u8) -> Option<Misplan> {
 pub fn mismark(entry: Entry, answer: u8) -> Option<Mismark> {
     match planted(entry, answer) {
         Some(Change::Mismark(mismark)) => Some(mismark),
+        _ => None,
+    }
+}
+
+/// The wrong search that answers in the library's place, if one does.
+pub fn mislink(entry: Entry) -> Option<Mislink> {
+    match planted(entry, 0) {
+        Some(Change::Mislink(mislink)) => Some(mislink),
         _ => None,
     }
 }

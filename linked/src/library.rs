@@ -3,7 +3,8 @@
 
 use std::slice;
 
-use crate::faults::{miscount, mismark, misplan, spoil, told, told_with, Entry, Part};
+use crate::faults::{miscount, mislink, mismark, misplan, spoil, told, told_with, Entry, Part};
+use crate::links::FOUND;
 use crate::misread::heard;
 use crate::plans::{IDLE, MADE};
 use crate::slots::{SLOTS, SMALL};
@@ -33,6 +34,16 @@ extern "C" {
         plan_len: usize,
         slots: *mut u32,
         slots_len: usize,
+        cells: *mut u64,
+        cells_len: usize,
+    ) -> u8;
+    fn campaign_search(
+        lengths: *const u32,
+        lengths_len: usize,
+        p: u8,
+        links: *const u32,
+        links_len: usize,
+        budget: u64,
         cells: *mut u64,
         cells_len: usize,
     ) -> u8;
@@ -171,6 +182,36 @@ pub fn make(asked: &[u32], p: u8, small: &mut [u8], lengths: &mut [u32], cells: 
             told_with(Entry::Make, answer, fits)
         }
     }
+}
+
+/// What a search is asked for, as it is lent.
+#[derive(Clone, Copy)]
+pub struct Asked<'a> {
+    pub lengths: &'a [u32],
+    pub p: u8,
+    pub links: &'a [u32],
+    pub budget: u64,
+}
+
+pub fn search(asked: Asked, cells: &mut [u64]) -> u8 {
+    if let Some(mislink) = mislink(Entry::Search) {
+        return mislink.search(asked, cells);
+    }
+    let Asked { lengths, p, links, budget } = asked;
+    let answer = unsafe {
+        campaign_search(
+            lengths.as_ptr(),
+            lengths.len(),
+            p,
+            links.as_ptr(),
+            links.len(),
+            budget,
+            cells.as_mut_ptr(),
+            cells.len(),
+        )
+    };
+    spoil(Entry::Search, answer, Part::Result, cells);
+    told_with(Entry::Search, answer, cells.len() == FOUND)
 }
 
 /// A call over a lent plan: its two slices, as four arguments before the others.

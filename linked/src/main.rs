@@ -4,8 +4,10 @@ mod engine;
 mod faults;
 mod lawful;
 mod library;
+mod links;
 mod marks;
 mod memory;
+mod mislink;
 mod mismark;
 mod misplan;
 mod misread;
@@ -31,9 +33,10 @@ usage: linked plans SEED N      compare planning on every small shape, N random 
        linked readings all      the same for all 2^32 patterns, on two threads, for some minutes
        linked steps SEED N      compare prices, T, every step and held on every small plan, N random plans and every refusal
        linked marks SEED N      compare whether an order adds up the fewest cells: every order of small shapes, N random plans
+       linked links SEED N      compare searches over links that cost unequally: small shapes with every p, N random ones and every refusal
        linked memory SEED N     compare step, view and gather on lent memory: every small plan, N random plans, large ones and every refusal
        linked selftest          plant faults between the library and each comparison, which must see them
-       linked bench             time planning, pricing, reading, steps and whole runs, proved and independent, in one run
+       linked bench             time planning, pricing, searches, reading, steps and whole runs, proved and independent, in one run
 ";
 
 fn main() -> ExitCode {
@@ -52,6 +55,9 @@ fn main() -> ExitCode {
         ["marks", seed, n] => {
             seed.parse().ok().zip(n.parse().ok()).map(|(s, n)| marks::check(s, n))
         }
+        ["links", seed, n] => {
+            seed.parse().ok().zip(n.parse().ok()).map(|(s, n)| links::check(s, n))
+        }
         ["memory", seed, n] => {
             seed.parse().ok().zip(n.parse().ok()).map(|(s, n)| memory::check(s, n))
         }
@@ -61,6 +67,7 @@ fn main() -> ExitCode {
         ["bench"] => {
             plans::bench();
             marks::bench();
+            links::bench();
             tapes::bench();
             steps::bench();
             runs::bench();

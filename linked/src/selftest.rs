@@ -1,10 +1,12 @@
 //! Faults planted between the library and each comparison: every one must be seen.
 
 use crate::faults::{plant, Change, Entry, Fault, Miscount, Part, When};
+use crate::mislink::Mislink;
 use crate::mismark::Mismark;
 use crate::misplan::Misplan;
 use crate::misread::{self, Misreading};
-use crate::{marks, memory, plans, readings, steps, tapes, Count};
+use crate::{links, marks, memory, plans, readings, steps, tapes, Count};
+use compare::links::wrong::Wrong;
 
 /// A comparison with its seed, and how much of it is run.
 type Loop = (fn(u64, u64) -> Count, u64, u64);
@@ -51,13 +53,28 @@ const fn reading(entry: Entry, written: &'static [(Part, Option<usize>)]) -> Tri
     Trial { entry, taken, refused, written, read: &[Part::Tape] }
 }
 
-const TRIALS: [Trial; 13] = [
+/// What compares searches: random requests, small shapes with every p, large ones, and refusals.
+const SEARCHED: Loop = (links::requests, 7, 40);
+const SMALL_SEARCHES: Loop = (links::smallest, 7, 4);
+const DEAR_SEARCHES: Loop = (links::largest, 7, 1);
+const UNSEARCHED: Loop = (links::refusals, 7, 12);
+
+const SEARCHING: Trial = Trial {
+    entry: Entry::Search,
+    taken: SEARCHED,
+    refused: UNSEARCHED,
+    written: &[(Part::Result, Some(links::FOUND))],
+    read: &[Part::Asked, Part::Links],
+};
+
+const TRIALS: [Trial; 14] = [
     planning(Entry::Plan, &[(Part::Result, None)]),
     planning(Entry::Idle, &[(Part::Result, Some(1))]),
     planning(
         Entry::Make,
         &[(Part::Small, Some(18)), (Part::Lengths, Some(8)), (Part::Result, Some(4))],
     ),
+    SEARCHING,
     listing(Entry::Price, &[(Part::Result, Some(4))]),
     listing(Entry::StepCount, &[(Part::Result, Some(1))]),
     listing(Entry::StepAt, &[(Part::Result, Some(5))]),
@@ -77,7 +94,7 @@ const TRIALS: [Trial; 13] = [
 /// What can be wrong with a call: its answer, each cell that it writes, the ends of a slice that
 /// has any length or is only read, and the cells around each slice.
 fn changes(trial: &Trial) -> Vec<Change> {
-    let mut changes = vec![Change::Answer(1), Change::Answer(15)];
+    let mut changes = vec![Change::Answer(1), Change::ONE_LESS];
     let any_length = trial.read.iter().map(|&part| (part, None));
     for (part, cells) in trial.written.iter().copied().chain(any_length) {
         match cells {
@@ -92,7 +109,7 @@ fn changes(trial: &Trial) -> Vec<Change> {
 /// What whole runs compare themselves: the steps' answers, positions and what they tell, and the
 /// array in the end.
 fn changes_in_runs() -> Vec<Change> {
-    let mut changes = vec![Change::Answer(1), Change::Answer(15), Change::Cell(Part::Position, 0)];
+    let mut changes = vec![Change::Answer(1), Change::ONE_LESS, Change::Cell(Part::Position, 0)];
     changes.extend((0..5).map(|at| Change::Cell(Part::Result, at)));
     changes.extend([Change::Cell(Part::Array, 0), Change::Last(Part::Array)]);
     changes
@@ -109,6 +126,7 @@ pub fn check() -> Count {
     try_all(&mut count, Entry::Step, When::Taken, (memory::runs, 7, 4), changes_in_runs());
     misplans(&mut count);
     mismarks(&mut count);
+    mislinks(&mut count);
     offences(&mut count);
     slices(&mut count);
     miscounts(&mut count);
@@ -143,7 +161,7 @@ fn misplans(count: &mut Count) {
         let changes: Vec<Change> = misplans.iter().copied().map(Change::Misplan).collect();
         for compare in [REQUESTED, REFUSED] {
             try_all(count, entry, When::Taken, compare, changes.clone());
-            let high_p = vec![Change::Answer(1), Change::Answer(10)];
+            let high_p = vec![Change::Answer(1), Change::taken(6)];
             try_all(count, entry, When::By(6), compare, high_p);
         }
         // Planning with prices takes no part in it.
@@ -183,12 +201,35 @@ fn mismarks(count: &mut Count) {
         for compare in [ORDERED, MARKED] {
             try_all(count, Entry::Price, When::Taken, compare, changes(trial));
         }
-        let taken = vec![Change::Answer(3)];
+        let taken = vec![Change::taken(13)];
         try_all(count, Entry::Price, When::By(13), MARKED, [changes(trial), taken].concat());
         for number in [3, 4, 5, 6, 8, 9] {
             let ahead = vec![Change::ResultFirst];
             try_all(count, Entry::Price, When::By(number), trial.refused, ahead);
         }
+    }
+}
+
+/// Wrong searches, told wrongly, and refusals that are lost, exchanged or given ahead of others.
+fn mislinks(count: &mut Count) {
+    let planted = |mislinks: &[Mislink]| mislinks.iter().copied().map(Change::Mislink).collect();
+    let wrong = |wrong: &[Wrong]| wrong.iter().copied().map(Mislink::Wrong).collect::<Vec<_>>();
+    let (entry, any) = (Entry::Search, When::Any);
+    for compare in [SEARCHED, SMALL_SEARCHES] {
+        try_all(count, entry, any, compare, planted(&wrong(&Wrong::SEARCHES)));
+    }
+    try_all(count, entry, any, SEARCHED, planted(&Mislink::TOLD));
+    try_all(count, entry, any, DEAR_SEARCHES, planted(&[Mislink::ShortCost]));
+    try_all(count, entry, any, UNSEARCHED, planted(&wrong(&Wrong::CHECKS)));
+    try_all(count, entry, any, UNSEARCHED, planted(&Mislink::LENT));
+    try_all(count, entry, When::Taken, SMALL_SEARCHES, changes(&SEARCHING));
+    for number in [3, 4, 5, 6, 18, 19, 13] {
+        let mut changes = changes(&SEARCHING);
+        changes.push(Change::taken(number));
+        if number != 13 {
+            changes.push(Change::ResultFirst);
+        }
+        try_all(count, entry, When::By(number), UNSEARCHED, changes);
     }
 }
 

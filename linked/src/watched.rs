@@ -5,7 +5,7 @@ use std::hint::black_box;
 use std::slice;
 
 use crate::faults::{planted, spoil, Change, Entry, Lend, Part};
-use crate::library::{self, Slices};
+use crate::library::{self, Asked, Slices};
 use crate::slots::Slots;
 
 /// The answer in place of the library's, where a call wrote what it was not to.
@@ -131,6 +131,19 @@ pub fn make(lengths: &[u32], p: u8, slots: &mut Slots, cells: &mut [u64]) -> u8 
         .read(asked, lengths)
         .written(made.small, &mut slots.small)
         .written(made.lengths, &mut slots.lengths)
+        .written(out, cells)
+        .answer()
+}
+
+pub fn search(asked: Asked, cells: &mut [u64]) -> u8 {
+    let mut lengths = Copied::new(Part::Asked, asked.lengths);
+    let mut links = Copied::new(Part::Links, asked.links);
+    let mut out = Copied::new(Part::Result, cells);
+    let lent = Asked { lengths: lengths.cells(), links: links.cells(), ..asked };
+    let answer = library::search(lent, out.cells());
+    Ended::new(Entry::Search, answer)
+        .read(lengths, asked.lengths)
+        .read(links, asked.links)
         .written(out, cells)
         .answer()
 }
