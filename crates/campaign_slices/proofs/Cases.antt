@@ -1,10 +1,11 @@
--- A plan in two slices, its steps, what its boards hold, and each refusal in its order, computed on lengths 3, 5 with p 1.
+-- A plan in two slices, its steps, what its boards hold, a search over links, and each refusal in its order, computed on lengths 3, 5 with p 1.
 use Prim.Native.Nat.{ℕ}
 use mathlib.Core.Path.{_≡_, refl}
 use mathlib.Core.List.{List, [], _∷_, _++_}
 use lib.ListN.{replicate}
 use Rattle.plan_spec.specs.declared.types.Plan.{Plan}
 use Rattle.campaign_slices.specs.Computing.{computing}
+use Rattle.campaign_slices.specs.Links.{lentSearchRefusal, lentSearch}
 use Rattle.campaign_slices.specs.Racks.{planFrom, bytesOf, priceRefusal, countRefusal, atRefusal, holdRefusal, priced, counted, steppedAt, held}
 
 -- two axes, p, the order and the exponents in eight slots each; the lengths in eight slots
@@ -63,3 +64,14 @@ refused = (refl, refl, refl, refl, refl, refl, refl, refl, refl, refl, refl, ref
 left : (counted small (7 ∷ 8 ∷ []) ≡ (7 ∷ 8 ∷ [])) × (steppedAt small 0 (7 ∷ 8 ∷ []) ≡ (7 ∷ 8 ∷ [])) × (held small 7 0 (7 ∷ []) ≡ (7 ∷ []))
 unfolding computing
 left = (refl, refl, refl)
+
+-- a search over links: p over 10, a budget of 0, a link too few, each before the slice; a slice too long, and left; the cells of the first division, and of both
+links : (lentSearchRefusal (3 ∷ 5 ∷ []) 11 (2 ∷ []) 0 12 ≡ 6)
+    × (lentSearchRefusal (3 ∷ 5 ∷ []) 1 (2 ∷ []) 0 12 ≡ 18)
+    × (lentSearchRefusal (3 ∷ 5 ∷ []) 1 (2 ∷ []) 1 12 ≡ 19)
+    × (lentSearchRefusal (3 ∷ 5 ∷ []) 1 (2 ∷ 9 ∷ []) 1 12 ≡ 13)
+    × (lentSearch (3 ∷ 5 ∷ []) 1 (2 ∷ 9 ∷ []) 1 (replicate 12 7) ≡ replicate 12 7)
+    × (lentSearch (3 ∷ 5 ∷ []) 1 (2 ∷ 9 ∷ []) 1 (replicate 11 7) ≡ (27 ∷ 21 ∷ 1 ∷ slots 0 1))
+    × (lentSearch (3 ∷ 5 ∷ []) 1 (2 ∷ 9 ∷ []) 2 (replicate 11 7) ≡ (10 ∷ 0 ∷ 2 ∷ slots 1 0))
+unfolding computing
+links = (refl, refl, refl, refl, refl, refl, refl)

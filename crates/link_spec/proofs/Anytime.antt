@@ -6,10 +6,11 @@ use lib.ListN.{length}
 use Rattle.cube_spec.specs.Limits.{padded}
 use Rattle.plan_spec.specs.Plans.{moved}
 use Rattle.plan_spec.specs.Rule.{powerUsed, planWithin}
+use Rattle.link_spec.specs.Divisions.{inUse}
 use Rattle.link_spec.specs.Costs.{linkOf, fare, cheapestCost}
 use Rattle.link_spec.specs.Search.{Found, search, searchRefusal, searchedAs, searching}
 use Rattle.link_spec.specs.Accepted.{SearchAccepted}
-use Rattle.link_spec.specs.Anytime.{inUse, Anytime}
+use Rattle.link_spec.specs.Anytime.{Anytime}
 use Rattle.link_spec.proofs.Winners.{cheapestWay, cheapest-least, cheapest-attained}
 use Rattle.link_spec.proofs.Listing.{listing}
 use Rattle.link_spec.proofs.Deciding.{accepted}

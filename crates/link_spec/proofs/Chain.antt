@@ -122,7 +122,9 @@ module _ (d : ℕ) (ds : List ℕ) (p : ℕ) (enough : p ≤ log2 d + room ds)
           → Follows (log2 d ∷ capsOf ds) (chained (suc n) block) (some (suc n ∷ filled (capsOf ds) (p - suc n)))
       go (yes l) f =
           unfold chained in
-          (follows-append (log2 d ∷ capsOf ds) (chained n block) (block n) (some (suc n ∷ filled (capsOf ds) (p - suc n))) (rw (block-head n (some (suc n ∷ filled (capsOf ds) (p - suc n))) l) f) (rw (← after-block n (omega arith)) (block-follows n l)))
+          (follows-append (log2 d ∷ capsOf ds) (chained n block) (block n) (some (suc n ∷ filled (capsOf ds) (p - suc n)))
+          (rw (block-head n (some (suc n ∷ filled (capsOf ds) (p - suc n))) l) f)
+          (rw (← after-block n (omega arith)) (block-follows n l)))
       go (no l) f = rw (empty-blocks n (omega arith)) (unfold Follows in tt)
 
   all-follow : Follows (log2 d ∷ capsOf ds) (chained (suc (min p (log2 d))) block) none

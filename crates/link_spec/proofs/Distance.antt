@@ -12,14 +12,15 @@ use borrow.Author.Tests.{leb-true, leb-false, le-leb}
 use Rattle.cube_spec.specs.Boxes.{sumN}
 use Rattle.cube_spec.specs.Choices.{fullMask, lengthOf, cells}
 use Rattle.cube_spec.specs.Tree.{sent}
-use Rattle.cube_spec.specs.Ways.{Way, Division, costBy, movedBy, room}
+use Rattle.cube_spec.specs.Ways.{Way, Division, costBy, movedBy}
 use Rattle.cube_spec.proofs.Sums.{by}
 use Rattle.cube_spec.proofs.Naturals.{sumN-cong, sumN-le, sumN-times-right}
 use Rattle.plan_spec.specs.Plans as Plans
 use Rattle.plan_spec.specs.Rule.{powerUsed, planWithin}
 use Rattle.plan_spec.proofs.Room.{room-division}
+use Rattle.plan_spec.proofs.Accepting.{used-room}
 use Rattle.plan_spec.proofs.Demand.{demand}
-use Rattle.link_spec.specs.Divisions.{divisions}
+use Rattle.link_spec.specs.Divisions.{inUse}
 use Rattle.link_spec.specs.Costs.{linkOf, weightedCost, fare, cheapestCost}
 use Rattle.link_spec.specs.Search.{smallest, search}
 use Rattle.link_spec.specs.Anytime.{First}
@@ -72,61 +73,54 @@ module _ (ds links : List ℕ) (s : ℕ) {p : ℕ} (e : Division ds p) (w : Way 
 -- ---- the search, over lengths of which none is 0, with a link weight for each
 
 module _ (ds : List ℕ) (p : ℕ) (links : List ℕ) (some : (d : ℕ) → d < length ds → 1 ≤ lengthOf ds d) (each : length links ≡ length ds) where
-  room-for : powerUsed ds p ≤ room ds
-  unfolding powerUsed
-  room-for = omega arith
-
-  there : 0 < length (divisions ds (powerUsed ds p))
+  there : 0 < length (inUse ds p)
   there =
-      let (i, l, e) = listing ds (powerUsed ds p) some .all (room-division ds (powerUsed ds p) some room-for) in
+      let (i, l, e) = listing ds (powerUsed ds p) some .all (room-division ds (powerUsed ds p) some (used-room ds p)) in
       omega arith
 
   -- no division with any parents costs less than the smallest link weight for each value that the planner moves
   pub floor-cost : (e : Division ds (powerUsed ds p)) (w : Way (length ds)) → smallest links * Plans.moved (planWithin ds p) ≤ weightedCost ds links e w
   floor-cost e w =
-      le-trans (mul-le-mul-left (smallest links) (demand ds (powerUsed ds p) some room-for .moves-least e w))
+      le-trans (mul-le-mul-left (smallest links) (demand ds (powerUsed ds p) some (used-room ds p) .moves-least e w))
       (dearer ds links (smallest links) e w (λ d l. smallest-le links d (rw each l)))
 
   module _ (budget : ℕ) (pays : 1 ≤ budget) where
-    tried : List (List ℕ)
-    tried = take budget (divisions ds (powerUsed ds p))
-
-    best-first : First (cheapestCost ds links) tried (search ds p links budget .exponents)
-    unfolding search tried
-    best-first = first-cheapest (cheapestCost ds links) tried (let l = length-take budget (divisions ds (powerUsed ds p)) in let t = there in omega arith)
-
     pub cost-of : search ds p links budget .cost ≡ cheapestCost ds links (search ds p links budget .exponents)
     unfolding search
     cost-of = refl
 
     -- the first cheapest of the first so many
-    pub first-so-far : First (cheapestCost ds links) (take budget (divisions ds (powerUsed ds p))) (search ds p links budget .exponents)
-    first-so-far = unfold tried in best-first
+    pub first-so-far : First (cheapestCost ds links) (take budget (inUse ds p)) (search ds p links budget .exponents)
+    unfolding search
+    first-so-far =
+        let l = length-take budget (inUse ds p) in
+        let t = there in
+        first-cheapest (cheapestCost ds links) (take budget (inUse ds p)) (omega arith)
 
     -- THE ANSWER IS A DIVISION, AND SOME PARENTS COST WHAT IT SAYS
     pub answer-division : (e : Division ds (powerUsed ds p)) × (e .exponents ≡ search ds p links budget .exponents)
     answer-division =
         let f = first-so-far in
-        let l = length-take budget (divisions ds (powerUsed ds p)) in
+        let l = length-take budget (inUse ds p) in
         let w = f .within in
         let (e, g) = listing ds (powerUsed ds p) some .each (f .place) (omega arith) in
-        (e, g ∙ sym (getD-take budget (divisions ds (powerUsed ds p)) (f .place) [] (omega arith)) ∙ f .here)
+        (e, g ∙ sym (getD-take budget (inUse ds p) (f .place) [] (omega arith)) ∙ f .here)
 
-    pub answer-attained : (e : Division ds (powerUsed ds p)) × (w : Way (length ds)) × (e .exponents ≡ search ds p links budget .exponents) × (weightedCost ds links e w ≡ search ds p links budget .cost)
+    answer-attained : (e : Division ds (powerUsed ds p)) × (w : Way (length ds)) × (weightedCost ds links e w ≡ search ds p links budget .cost)
     answer-attained =
         let (e, g) = answer-division in
-        (e, cheapestWay (fare links (e .exponents)) (length ds), g, cheapest-attained ds links e ∙ ap (cheapestCost ds links) g ∙ sym cost-of)
+        (e, cheapestWay (fare links (e .exponents)) (length ds), cheapest-attained ds links e ∙ ap (cheapestCost ds links) g ∙ sym cost-of)
 
     -- so the planner's floor is no more than it
     pub floor-answer : smallest links * Plans.moved (planWithin ds p) ≤ search ds p links budget .cost
-    floor-answer = let (e, w, g, c) = answer-attained in rw c at (floor-cost e w)
+    floor-answer = let (e, w, c) = answer-attained in rw c at (floor-cost e w)
 
     -- THE DISTANCE: 0 once all are priced, and else the cost less that floor
-    pub distance-none : length (divisions ds (powerUsed ds p)) ≤ budget → search ds p links budget .distance ≡ 0
+    pub distance-none : length (inUse ds p) ≤ budget → search ds p links budget .distance ≡ 0
     unfolding search
-    distance-none h = rw (le-leb (length (divisions ds (powerUsed ds p))) budget h)
+    distance-none h = rw (le-leb (length (inUse ds p)) budget h)
 
-    pub distance-some : budget < length (divisions ds (powerUsed ds p)) → search ds p links budget .distance + smallest links * Plans.moved (planWithin ds p) ≡ search ds p links budget .cost
+    pub distance-some : budget < length (inUse ds p) → search ds p links budget .distance + smallest links * Plans.moved (planWithin ds p) ≡ search ds p links budget .cost
     distance-some h =
         let f = floor-answer in
         let d = distance-less in
@@ -135,28 +129,28 @@ module _ (ds : List ℕ) (p : ℕ) (links : List ℕ) (some : (d : ℕ) → d < 
         distance-less : search ds p links budget .distance ≡ search ds p links budget .cost - smallest links * Plans.moved (planWithin ds p)
         distance-less =
             unfold search in
-            (by (leb (length (divisions ds (powerUsed ds p))) budget) (λ t. absurd (let k = leb-true (length (divisions ds (powerUsed ds p))) budget t in omega arith)) (λ t. rw t))
+            (by (leb (length (inUse ds p)) budget) (λ t. absurd (let k = leb-true (length (inUse ds p)) budget t in omega arith)) (λ t. rw t))
 
     -- with all priced, no division costs less
-    all-least : length (divisions ds (powerUsed ds p)) ≤ budget → (e : Division ds (powerUsed ds p)) → search ds p links budget .cost ≤ cheapestCost ds links (e .exponents)
+    all-least : length (inUse ds p) ≤ budget → (e : Division ds (powerUsed ds p)) → search ds p links budget .cost ≤ cheapestCost ds links (e .exponents)
     all-least h e =
         let (i, l, g) = listing ds (powerUsed ds p) some .all e in
-        let t = take-all budget (divisions ds (powerUsed ds p)) h in
+        let t = take-all budget (inUse ds p) h in
         let f = first-so-far in
-        let c : cheapestCost ds links (search ds p links budget .exponents) ≤ cheapestCost ds links (getD (divisions ds (powerUsed ds p)) i []) = (rw t at f) .least i l in
+        let c : cheapestCost ds links (search ds p links budget .exponents) ≤ cheapestCost ds links (getD (inUse ds p) i []) = (rw t at f) .least i l in
         rw (cost-of, ← g) c
 
     -- NO DIVISION WITH ANY PARENTS UNDERCUTS THE ANSWER BY MORE THAN THE DISTANCE
     pub undercut : (e : Division ds (powerUsed ds p)) (w : Way (length ds)) → search ds p links budget .cost ≤ weightedCost ds links e w + search ds p links budget .distance
     undercut e w =
-        by (leb (length (divisions ds (powerUsed ds p))) budget)
-        (λ t. let a = all-least (leb-true (length (divisions ds (powerUsed ds p))) budget t) e in let b = cheapest-least ds links e w in omega arith)
-        (λ t. let a = distance-some (let l = leb-false (length (divisions ds (powerUsed ds p))) budget t in omega arith) in let b = floor-cost e w in omega arith)
+        by (leb (length (inUse ds p)) budget)
+        (λ t. let a = all-least (leb-true (length (inUse ds p)) budget t) e in let b = cheapest-least ds links e w in omega arith)
+        (λ t. let a = distance-some (let l = leb-false (length (inUse ds p)) budget t in omega arith) in let b = floor-cost e w in omega arith)
 
     -- WITH ALL WEIGHTS ALIKE THE WHOLE SEARCH COSTS WHAT THE PLANNER MOVES, AT THAT WEIGHT
-    pub alike-all : (s : ℕ) → 0 < length ds → ((d : ℕ) → d < length ds → linkOf links d ≡ s) → length (divisions ds (powerUsed ds p)) ≤ budget → search ds p links budget .cost ≡ s * Plans.moved (planWithin ds p)
+    pub alike-all : (s : ℕ) → 0 < length ds → ((d : ℕ) → d < length ds → linkOf links d ≡ s) → length (inUse ds p) ≤ budget → search ds p links budget .cost ≡ s * Plans.moved (planWithin ds p)
     alike-all s n h a =
-        let least = demand ds (powerUsed ds p) some room-for in
+        let least = demand ds (powerUsed ds p) some (used-room ds p) in
         let e = least .division in
         let w = least .way in
         let u = undercut e w in
@@ -170,14 +164,14 @@ module _ (ds : List ℕ) (p : ℕ) (links : List ℕ) (some : (d : ℕ) → d < 
   -- WITH A LARGER BUDGET NEITHER COST NOR DISTANCE RISES
   pub cost-falls : (b c : ℕ) → 1 ≤ b → b ≤ c → search ds p links c .cost ≤ search ds p links b .cost
   unfolding search
-  cost-falls b c h k = more-cheaper (cheapestCost ds links) b c (divisions ds (powerUsed ds p)) h k there
+  cost-falls b c h k = more-cheaper (cheapestCost ds links) b c (inUse ds p) h k there
 
   pub distance-falls : (b c : ℕ) → 1 ≤ b → b ≤ c → search ds p links c .distance ≤ search ds p links b .distance
   distance-falls b c h k =
-      by (leb (length (divisions ds (powerUsed ds p))) c)
-      (λ t. let z = distance-none c (omega arith) (leb-true (length (divisions ds (powerUsed ds p))) c t) in omega arith)
+      by (leb (length (inUse ds p)) c)
+      (λ t. let z = distance-none c (omega arith) (leb-true (length (inUse ds p)) c t) in omega arith)
       (λ t.
-      let l = leb-false (length (divisions ds (powerUsed ds p))) c t in
+      let l = leb-false (length (inUse ds p)) c t in
       let x = distance-some c (omega arith) (omega arith) in
       let y = distance-some b h (omega arith) in
       let z = cost-falls b c h k in

@@ -50,7 +50,12 @@ padded-over r slots n e h l z = padded-of r (r ++ drop n slots) (length-append r
         go (no b) =
             let q : j ≡ length r + (j - n) = omega arith in
             let s : n + (j - n) ≡ j = omega arith in
-            ap (λ (x : ℕ). getD (r ++ drop n slots) x 0) q ∙ getD-append-add r (drop n slots) (j - n) 0 ∙ getD-drop n slots (j - n) 0 ∙ ap (λ (x : ℕ). getD slots x 0) s ∙ z j (omega arith) ∙ sym (List·getD-eq-default r 0 (omega arith))
+            ap (λ (x : ℕ). getD (r ++ drop n slots) x 0) q
+            ∙ getD-append-add r (drop n slots) (j - n) 0
+            ∙ getD-drop n slots (j - n) 0
+            ∙ ap (λ (x : ℕ). getD slots x 0) s
+            ∙ z j (omega arith)
+            ∙ sym (List·getD-eq-default r 0 (omega arith))
 
 pub padded-spare : (l : List ℕ) (n : ℕ) → length l ≡ n → n ≤ axisLimit → (j : ℕ) → n ≤ j → getD (padded l) j 0 ≡ 0
 padded-spare l n e h j k = go (decLe (suc j) axisLimit)
@@ -101,7 +106,8 @@ unfolding firstCheapest cheaper
 first-one cost [] h = absurd (omega arith)
 first-one cost (x ∷ l) h = refl
 
-pub first-next : (cost : List ℕ → ℕ) (l : List (List ℕ)) (i : ℕ) → 0 < i → i < length l → firstCheapest cost (take (i + 1) l) ≡ pick (ltb (cost (getD l i [])) (cost (firstCheapest cost (take i l)))) (getD l i []) (firstCheapest cost (take i l))
+pub first-next : (cost : List ℕ → ℕ) (l : List (List ℕ)) (i : ℕ) → 0 < i → i < length l
+    → firstCheapest cost (take (i + 1) l) ≡ pick (ltb (cost (getD l i [])) (cost (firstCheapest cost (take i l)))) (getD l i []) (firstCheapest cost (take i l))
 first-next cost l i h k = rw (add-one i, take-suc l i [] k) (first-more cost (take i l) (getD l i []) (let q = length-take i l in omega arith))
 
 -- ---- from one to the next
@@ -203,7 +209,8 @@ module _ (lens links : List ℕ) (n q : ℕ) (slots : length lens ≡ axisLimit)
 
     pub at-cost : sharesCost (λ d. getD lens d 0) (fare links at) n ≡ cost (getD all i [])
     at-cost =
-        shares-cong (λ d. getD lens d 0) (lengthOf (take n lens)) (fare links at) (fare (take n links) (getD all i [])) n (λ d k. sym (getD-take n lens d 0 k)) (λ d k. unfold fare in (ap₂ (λ (x y : ℕ). sent x * y) (slot-at d k) (sym (getD-take n links d 0 k))))
+        shares-cong (λ d. getD lens d 0) (lengthOf (take n lens)) (fare links at) (fare (take n links) (getD all i [])) n (λ d k. sym (getD-take n lens d 0 k))
+        (λ d k. unfold fare in (ap₂ (λ (x y : ℕ). sent x * y) (slot-at d k) (sym (getD-take n links d 0 k))))
         ∙ ap (sharesCost (lengthOf (take n lens)) (fare (take n links) (getD all i []))) (sym count)
         ∙ sym (cheapest-shares (take n lens) (take n links) (getD all i []))
 
@@ -255,7 +262,8 @@ module _ (all : List (List ℕ)) (cost : List ℕ → ℕ) (budget : ℕ) where
     pub trying-passes : least ≤ c → Trying all cost budget to best least (priced + 1)
     trying-passes h =
         let g = t .cheap in
-        let w : firstCheapest cost (take (priced + 1) all) ≡ firstCheapest cost (take priced all) = more ∙ (rw (le-ltb (cost (getD all priced [])) (cost (firstCheapest cost (take priced all))) (omega arith))) in
+        let w : firstCheapest cost (take (priced + 1) all) ≡ firstCheapest cost (take priced all) =
+        more ∙ (rw (le-ltb (cost (getD all priced [])) (cost (firstCheapest cost (take priced all))) (omega arith))) in
         record { some = omega arith; bought = omega arith; there = omega arith; now = rw (← last-one) e; kept = rw w (t .kept); cheap = rw w (t .cheap) }
 
 module _ (ds links : List ℕ) (q budget : ℕ) (at best : List ℕ) (least priced : ℕ)

@@ -41,7 +41,9 @@ bits-sum g zero = unfold sumN bits product in refl
 bits-sum g (suc n) =
     let later : ℕ → Bool → ℕ = λ j. g (suc j) in
     sum-masks n (λ mask. bits g (keeps mask) (suc n))
-    ∙ ap₂ _+_ (sumN-cong (2 ^ n) (λ m l. bits-odd g n m) ∙ sumN-times (g 0 true) (2 ^ n) (λ m. bits later (keeps m) n)) (sumN-cong (2 ^ n) (λ m l. bits-even g n m) ∙ sumN-times (g 0 false) (2 ^ n) (λ m. bits later (keeps m) n))
+    ∙ ap₂ _+_
+    (sumN-cong (2 ^ n) (λ m l. bits-odd g n m) ∙ sumN-times (g 0 true) (2 ^ n) (λ m. bits later (keeps m) n))
+    (sumN-cong (2 ^ n) (λ m l. bits-even g n m) ∙ sumN-times (g 0 false) (2 ^ n) (λ m. bits later (keeps m) n))
     ∙ sym (add-mul (g 0 true) (g 0 false) (sumN (2 ^ n) (λ m. bits later (keeps m) n)))
     ∙ ap (λ (x : ℕ). (g 0 true + g 0 false) * x) (bits-sum later n ∙ product-shift (λ j. g j true + g j false) n 0)
     ∙ (unfold product in refl)

@@ -62,8 +62,10 @@ module _ (exps caps : List ℕ) (n : ℕ) (slots : length exps ≡ 8) (places : 
     unfolding Filling sumList
     fill-turn =
         let r = filled (drop (i + 1) (take n caps)) (min q (sumList (drop (i + 1) (take n caps)))) ++ drop n exps in
-        let m : k ≡ min (getD caps i 0) (q - sumList (drop (i + 1) (take n caps))) = e ∙ ap (λ (x : ℕ). min (getD caps i 0) x) (f .1) in
-        (rw (cap, f .0, filled-next (getD caps i 0) (drop (i + 1) (take n caps)) q, ← m) (set-in exps r i k (omega arith)), rw cap (taken-left (getD caps i 0) (sumList (drop (i + 1) (take n caps))) q left k (f .1) e))
+        let m : k ≡ min (getD caps i 0) (q - sumList (drop (i + 1) (take n caps))) = e ∙ ap (λ (x : ℕ). min (getD caps i 0) x) (f .1) in (
+          rw (cap, f .0, filled-next (getD caps i 0) (drop (i + 1) (take n caps)) q, ← m) (set-in exps r i k (omega arith)),
+          rw cap (taken-left (getD caps i 0) (sumList (drop (i + 1) (take n caps))) q left k (f .1) e),
+        )
 
   pub fill-end : (q i from : ℕ) (out : List ℕ) (left : ℕ) → i ≡ from → Filling exps caps n q i out left → out ≡ take from exps ++ (filled (drop from (take n caps)) q ++ drop n exps)
   unfolding Filling
@@ -128,15 +130,22 @@ module _ (exps caps : List ℕ) (n : ℕ) (slots : length exps ≡ 8) (places : 
         omega arith
 
     pub raised-next : 0 < rest → getD exps i 0 < getD caps i 0
-        → nextAs n exps (nextOf (take n caps) (take n exps)) ≡ went true (take (i + 1) (set exps i (getD exps i 0 + 1)) ++ (filled (drop (i + 1) (take n caps)) (rest - 1) ++ drop n (set exps i (getD exps i 0 + 1))))
+        → nextAs n exps (nextOf (take n caps) (take n exps))
+        ≡ went true (take (i + 1) (set exps i (getD exps i 0 + 1)) ++ (filled (drop (i + 1) (take n caps)) (rest - 1) ++ drop n (set exps i (getD exps i 0 + 1))))
     unfolding Stuck nextAs
     raised-next p l =
         let e = s .0 in
-        let hit : nextOf (drop i (take n caps)) (drop i (take n exps)) ≡ some (suc (getD exps i 0) ∷ filled (drop (i + 1) (take n caps)) (rest - 1)) = (rw (caps-cut, exps-cut, e) (next-hit (getD caps i 0) (drop (i + 1) (take n caps)) (getD exps i 0) (drop (i + 1) (take n exps)) (s .1) (omega arith) l)) in
+        let hit : nextOf (drop i (take n caps)) (drop i (take n exps)) ≡ some (suc (getD exps i 0) ∷ filled (drop (i + 1) (take n caps)) (rest - 1)) =
+        (rw (caps-cut, exps-cut, e)
+        (next-hit (getD caps i 0) (drop (i + 1) (take n caps)) (getD exps i 0) (drop (i + 1) (take n exps)) (s .1) (omega arith) l)) in
         let a = length-take n caps in
         let b = length-take n exps in
         let all = next-front i (take n caps) (take n exps) _ (omega arith) (omega arith) hit in
-        rw (all, add-one i, take-suc-set exps i (getD exps i 0 + 1) (omega arith), drop-set-lt n exps i (getD exps i 0 + 1) h, take-take i n exps (omega arith), ← add-one (getD exps i 0)) (ap (λ (x : List ℕ). went true x) (append-assoc (take i exps) _ (drop n exps) ∙ sym (append-assoc (take i exps) ((getD exps i 0 + 1) ∷ []) _)))
+        let raised = take-suc-set exps i (getD exps i 0 + 1) (omega arith) in
+        let spare = drop-set-lt n exps i (getD exps i 0 + 1) h in
+        rw (all, add-one i, raised, spare, take-take i n exps (omega arith), ← add-one (getD exps i 0))
+        (ap (λ (x : List ℕ). went true x)
+        (append-assoc (take i exps) _ (drop n exps) ∙ sym (append-assoc (take i exps) ((getD exps i 0 + 1) ∷ []) _)))
 
   pub stuck-end : (i rest : ℕ) → i ≡ 0 → Stuck exps caps n i rest → nextAs n exps (nextOf (take n caps) (take n exps)) ≡ went false exps
   unfolding Stuck nextAs

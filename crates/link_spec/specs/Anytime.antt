@@ -9,7 +9,7 @@ use Rattle.cube_spec.specs.Ways.{Way, Division}
 use Rattle.plan_spec.specs.Plans.{moved}
 use Rattle.plan_spec.specs.Rule.{powerUsed, planWithin}
 use Rattle.link_spec.specs.declared.types.Searched.{Searched}
-use Rattle.link_spec.specs.Divisions.{divisions, Listing}
+use Rattle.link_spec.specs.Divisions.{inUse, Listing}
 use Rattle.link_spec.specs.Costs.{weightedCost, cheapestCost}
 use Rattle.link_spec.specs.Search.{smallest}
 
@@ -20,10 +20,6 @@ pub record First (cost : List ℕ → ℕ) (l : List (List ℕ)) (b : List ℕ) 
   pub here : getD l place [] ≡ b
   pub before : (j : ℕ) → j < place → cost b < cost (getD l j [])
   pub least : (j : ℕ) → j < length l → cost b ≤ cost (getD l j [])
-
--- all divisions of the boards in use
-abbrev pub inUse : List ℕ → ℕ → List (List ℕ)
-inUse ds p = divisions ds (powerUsed ds p)
 
 pub record Anytime (ds : List ℕ) (p : ℕ) (links : List ℕ) (budget : ℕ) (r : Searched) : Type 0 where
   pub accepted : r .refusal ≡ 0

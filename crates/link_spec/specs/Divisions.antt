@@ -6,6 +6,7 @@ use lib.Dec.{eqb}
 use lib.ListN.{length, getD}
 use Rattle.cube_spec.specs.Boxes.{pick}
 use Rattle.cube_spec.specs.Ways.{Division, log2}
+use Rattle.plan_spec.specs.Rule.{powerUsed}
 
 -- the lists f 0, f 1, .. f (n - 1), one after the other
 unfoldable pub chained : {A : Type 0} → ℕ → (ℕ → List A) → List A
@@ -22,6 +23,10 @@ headed k (e ∷ l) = (k ∷ e) ∷ headed k l
 unfoldable pub divisions : List ℕ → ℕ → List (List ℕ)
 divisions [] p = pick (eqb p 0) ([] ∷ []) []
 divisions (d ∷ ds) p = chained (suc (min p (log2 d))) (λ k. headed k (divisions ds (p - k)))
+
+-- "divisions of the boards in use (7/12)"
+abbrev pub inUse : List ℕ → ℕ → List (List ℕ)
+inUse ds p = divisions ds (powerUsed ds p)
 
 -- "ascending": at the first axis where two differ, the one that comes before has less
 pub data Before : List ℕ → List ℕ → Type 0 where

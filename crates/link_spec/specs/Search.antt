@@ -8,10 +8,10 @@ use Rattle.cube_spec.specs.Limits.{padded}
 use Rattle.cube_spec.specs.Boxes.{pick}
 use Rattle.cube_spec.specs.Checks.{Check, check, first}
 use Rattle.plan_spec.specs.Plans as Plans
-use Rattle.plan_spec.specs.Rule.{powerUsed, planWithin}
+use Rattle.plan_spec.specs.Rule.{planWithin}
 use Rattle.plan_spec.specs.Refusals.{some, planningChecks}
 use Rattle.link_spec.specs.declared.types.Searched.{Searched}
-use Rattle.link_spec.specs.Divisions.{divisions}
+use Rattle.link_spec.specs.Divisions.{inUse}
 use Rattle.link_spec.specs.Costs.{cheapestCost}
 
 -- b, or the first cheapest of a list that follows it, where one there costs less
@@ -41,7 +41,7 @@ pub record Found : Type 0 where
 -- priced"
 unfoldable pub search : List ℕ → ℕ → List ℕ → ℕ → Found
 search ds p links budget =
-    let all = divisions ds (powerUsed ds p) in
+    let all = inUse ds p in
     let best = firstCheapest (cheapestCost ds links) (take budget all) in
     let cost = cheapestCost ds links best in
     record {

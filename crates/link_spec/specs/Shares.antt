@@ -9,7 +9,7 @@ use Rattle.cube_spec.specs.Boxes.{pick, sumN, product}
 use Rattle.plan_spec.specs.Choosing.{Bounded}
 use Rattle.link_spec.specs.Search.{linkLimit}
 
--- does axis j, at the price a, go before axis i, at the price b: at a lower price, or at the same with a lower number?
+-- does axis j, at the fare a, go before axis i, at the fare b: at a lower one, or at the same with a lower number?
 unfoldable pub goesBefore : ℕ → ℕ → ℕ → ℕ → Bool
 goesBefore a b j i = ltb a b || (eqb a b && ltb j i)
 
@@ -18,14 +18,14 @@ unfoldable pub factorOf : ℕ → ℕ → ℕ → ℕ → ℕ → ℕ
 factorOf len a b j i = pick (eqb j i) 1 (pick (goesBefore a b j i) len (len + 1))
 
 abbrev pub factor : (ℕ → ℕ) → (ℕ → ℕ) → ℕ → ℕ → ℕ
-factor len price i j = factorOf (len j) (price j) (price i) j i
+factor len fares i j = factorOf (len j) (fares j) (fares i) j i
 
 -- the cells of those choices, of n axes
 unfoldable pub share : (ℕ → ℕ) → (ℕ → ℕ) → ℕ → ℕ → ℕ
-share len price n i = product (factor len price i) n 0
+share len fares n i = product (factor len fares i) n 0
 
 unfoldable pub sharesCost : (ℕ → ℕ) → (ℕ → ℕ) → ℕ → ℕ
-sharesCost len price n = sumN n (λ i. price i * share len price n i)
+sharesCost len fares n = sumN n (λ i. fares i * share len fares n i)
 
 -- ---- n axes that can be priced in 64 bits
 

@@ -28,7 +28,8 @@ mul-r c =
     let s = t .before in
     let h = t .loop-test .taken in
     let a = s .before .before .args in
-    record { fits = share-fits (a .lens .now) (a .fares .now) (a .i) (a .i) (s .before .before .pre .0) (s .loop .j) (s .loop .r) (c .factor-before .result) h (s .loop .inv .2) (c .factor-before .ensures (s .loop .j) (a .i) h) }
+    let f = c .factor-before .ensures (s .loop .j) (a .i) h in
+    record { fits = share-fits (a .lens .now) (a .fares .now) (a .i) (a .i) (s .before .before .pre .0) (s .loop .j) (s .loop .r) _ h (s .loop .inv .2) f }
 
 loop-again : tie.Need-loop-again Inv-loop μ-loop
 loop-again c =
@@ -36,7 +37,8 @@ loop-again c =
     let s = t .before in
     let h = t .loop-test .taken in
     let a = s .before .before .args in
-    (next-le h, s .loop .inv .1, share-next (a .lens .now) (a .fares .now) (a .i) (a .i) (s .before .before .pre .0) (s .loop .j) (s .loop .r) (c .factor-before .result) h (s .loop .inv .2) (c .factor-before .ensures (s .loop .j) (a .i) h))
+    let f = c .factor-before .ensures (s .loop .j) (a .i) h in
+    (next-le h, s .loop .inv .1, share-next (a .lens .now) (a .fares .now) (a .i) (a .i) (s .before .before .pre .0) (s .loop .j) (s .loop .r) _ h (s .loop .inv .2) f)
 
 returns : tie.Need-returns Inv-loop μ-loop
 returns c =

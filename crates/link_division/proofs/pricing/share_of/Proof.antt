@@ -42,7 +42,8 @@ mul-r c =
     let h = t .loop-test .taken in
     let o = s .before .before .before in
     let a = o .args in
-    record { fits = share-fits (a .lens .now) (a .fares .now) (a .n) (a .i) (o .pre .0) (s .loop .j) (s .loop .r) (c .factor-after .result) h (v .3) (c .factor-after .ensures (s .loop .j) (a .i) (v .2)) }
+    let f = c .factor-after .ensures (s .loop .j) (a .i) (v .2) in
+    record { fits = share-fits (a .lens .now) (a .fares .now) (a .n) (a .i) (o .pre .0) (s .loop .j) (s .loop .r) _ h (v .3) f }
 
 loop-again : tie.Need-loop-again Inv-loop μ-loop
 loop-again c =
@@ -52,7 +53,8 @@ loop-again c =
     let h = t .loop-test .taken in
     let o = s .before .before .before in
     let a = o .args in
-    let more = share-next (a .lens .now) (a .fares .now) (a .n) (a .i) (o .pre .0) (s .loop .j) (s .loop .r) (c .factor-after .result) h (v .3) (c .factor-after .ensures (s .loop .j) (a .i) (v .2)) in
+    let f = c .factor-after .ensures (s .loop .j) (a .i) (v .2) in
+    let more = share-next (a .lens .now) (a .fares .now) (a .n) (a .i) (o .pre .0) (s .loop .j) (s .loop .r) _ h (v .3) f in
     (next-le h, v .1, (let q = v .2 in omega arith), more)
 
 returns : tie.Need-returns Inv-loop μ-loop

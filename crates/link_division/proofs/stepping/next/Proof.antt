@@ -86,7 +86,8 @@ loop-again c =
     let s = t .before in
     let v = s .loop .inv in
     let a = s .before .args in
-    let kept : 0 < s .loop .rest → getD (a .caps .now) (s .loop .i - 1) 0 ≤ getD (s .loop .exponents) (s .loop .i - 1) 0 = ⊎-elim (λ w p. w .2 .left) (λ w p. absurd (let q = w .left in omega arith)) (c .if1 .came) in
+    let kept : 0 < s .loop .rest → getD (a .caps .now) (s .loop .i - 1) 0 ≤ getD (s .loop .exponents) (s .loop .i - 1) 0 =
+    ⊎-elim (λ w p. w .2 .left) (λ w p. absurd (let q = w .left in omega arith)) (c .if1 .came) in
     let on = turn-on (s .loop .exponents) (a .caps .now) (a .n) (s .loop .i) (s .loop .rest) (v .2) (v .3) (v .1) (v .4) (t .loop-test .taken) (v .0) (v .6) kept in
     (on .0, v .1, v .2, v .3, v .4, v .5, on .1)
 

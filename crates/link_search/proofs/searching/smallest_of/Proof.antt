@@ -36,7 +36,12 @@ loop-again c =
     let v = s .loop .inv in
     let l = s .before .before .args .links .now in
     let h = c .before .before .loop-test .taken in
-    (omega arith, omega arith, ⊎-elim (λ w. took l (s .loop .i) (s .loop .least) _ _ (v .0) h (v .2) refl (w .0 .taken) (w .1)) (λ w. kept l (s .loop .i) (s .loop .least) _ _ (v .0) h (v .2) refl (w .0 .left) (w .1)) (c .if1 .came))
+    let next =
+    ⊎-elim
+    (λ w. took l (s .loop .i) (s .loop .least) (c .if1 .least) _ (v .0) h (v .2) refl (w .0 .taken) (w .1))
+    (λ w. kept l (s .loop .i) (s .loop .least) (c .if1 .least) _ (v .0) h (v .2) refl (w .0 .left) (w .1))
+    (c .if1 .came) in
+    (omega arith, omega arith, next)
 
 returns : tie.Need-returns Inv-loop μ-loop
 returns c =
