@@ -81,7 +81,8 @@ n, m = re.findall(r'^(\d+) passed, (\d+) failed$', log, re.M)[-1]
 print(row(['the whole gate', int(n), int(m)]))
 print('''
 'Proofs' are the crates and the must-fail edits. 'The program' is 6,000 tapes, the 30 outcomes that they must bring up (11 refusals, 1 to 8 axes, p from 0 to 10),
-and 91 runs in which nobody takes what it prints, or not all of it. Planning, marks, tapes, readings, steps and memory count calls, each compared in its answer and in all that it was lent.''')
+and 91 runs in which nobody takes what it prints, or not all of it. Planning, marks, links, tapes, readings, steps and memory count calls, each compared in its answer and in all that it was lent;
+links also what holds among its answers, and runs.''')
 for minutes, seconds in re.findall(r'^real\s+(\d+)m([\d.]+)s', log, re.M)[-1:]:
     whole = round(60 * int(minutes) + float(seconds))
     print(f'\nThe whole gate took {whole // 60} min {whole % 60} s.')
@@ -91,6 +92,7 @@ print('''
 ## Ratios
 
 Time of what is proved over time of `compare`, same input, both built for release. `linked bench` times calls of the libraries, `compare bench` whole
-processes. Of the two ratios of opening, the first is to a scan and then a filling, each of which scans. A loaded machine shifts the ratios.
+processes. Of the two ratios of opening, the first is to a scan and then a filling, each of which scans. Of a search over
+links the time is for each division, but for a budget of 1, where it is the call's; `compare` has the same sum over the axes. A loaded machine shifts the ratios.
 ''')
 print('```\n' + (bench.group() if bench else 'not in the log\n') + '```')

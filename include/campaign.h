@@ -211,7 +211,7 @@ uint8_t campaign_make(const uint32_t *lengths, size_t lengths_len, uint8_t p,
                       uint8_t *plan, size_t plan_len, uint32_t *slots, size_t slots_len,
                       uint64_t *cells, size_t cells_len);
 
-/* The search over links: see campaign_link_search. */
+/* The search over links: see campaign_link_search. CAMPAIGN_SEARCH_CELLS cells. */
 uint8_t campaign_search(const uint32_t *lengths, size_t lengths_len, uint8_t p,
                         const uint32_t *links, size_t links_len, uint64_t budget,
                         uint64_t *cells, size_t cells_len);
@@ -341,17 +341,19 @@ static inline uint8_t campaign_plan_price(const struct campaign_rack_plan *plan,
  * order of their exponents, read in axis order, the first `budget` of them or all that there are.
  * The answer is the first cheapest of these.
  *
- * The search may be stopped anywhere: a larger budget never gives a higher cost or a higher
- * distance, and with UINT64_MAX the answer is the cheapest of all. found->distance is 0 once all
- * divisions are priced. Before, it is the cost less the least weight for each value that the
- * planner's plan moves: to know that an answer is within a tenth of the best, look for
- * distance <= (cost - distance) / 10. At most 8 axes and 1,024 boards have some thousands of
- * divisions.
+ * Any budget gives a usable answer, and each call begins again with the first division. A larger
+ * budget never gives a higher cost or a higher distance. UINT64_MAX prices all divisions, of which
+ * there are never more than 6,728, and then the answer is the cheapest of all and found->distance
+ * is 0. Before that found->distance is the cost less a floor: the smallest link weight of all axes,
+ * also of one of length 1, times the values that the plan of campaign_plan_make moves
+ * (prices->moved). To know that an answer is within a tenth of the best, look for
+ * distance <= (cost - distance) / 10. No cost overflows.
  *
- * To run an answer, fill in a plan by hand with its exponents and an order along which
- * (2^k - 1) * weight never rises, k being an axis's exponent. Each choice is then formed from its
- * cheapest parent, and what the transfers move costs found->cost. examples/links.c does that.
- * Refusals 3 to 6, 18, 19.
+ * To run an answer, fill in a plan by hand: lengths and exponents by axis number, p the sum of the
+ * exponents (less than the p asked for where that is over F), and an order along which
+ * (2^k - 1) * link weight never rises, k being an axis's exponent. Each choice is then formed from
+ * its cheapest parent, and its tree costs found->cost. examples/links.c does that, and adds up the
+ * transfers. `links_len` must be `axes`, else 19 is due. Refusals 3 to 6, 18, 19.
  */
 static inline uint8_t campaign_link_search(const uint32_t *lengths, size_t axes, uint8_t p,
                                            const uint32_t *links, size_t links_len,

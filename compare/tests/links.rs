@@ -73,7 +73,7 @@ fn the_papers_cases() {
 #[test]
 fn a_racks_transfers_cost_what_their_parents_do() {
     let mut random = Random::new(9);
-    let mut cheaper = 0;
+    let (mut cheaper, mut falling) = (0, 0);
     for lengths in [shapes(1, 9), shapes(2, 6), shapes(3, 4)].concat() {
         let (links, p) = (any_links(&mut random, lengths.len()), highest_p(&lengths));
         let p = random.below(u64::from(p) + 1) as u32;
@@ -86,10 +86,20 @@ fn a_racks_transfers_cost_what_their_parents_do() {
                 let least = cost(&plan.lengths, &links, &plan.exponents);
                 assert!(least <= along_tree, "{plan:?} {links:?}");
                 cheaper += u64::from(least < along_tree);
+                if costs_never_rise(&plan, &links) {
+                    assert_eq!(least, along_tree, "{plan:?} {links:?}");
+                    falling += 1;
+                }
             }
         }
     }
-    assert!(cheaper > 300, "{cheaper}");
+    assert!(cheaper > 300 && falling > 300, "{cheaper} {falling}");
+}
+
+/// Along the order, what a cell costs when the axis is summed.
+fn costs_never_rise(plan: &Plan, links: &[u64]) -> bool {
+    let along = |axis: usize| links::along(links, &plan.exponents, axis);
+    plan.order.windows(2).all(|pair| along(pair[1]) <= along(pair[0]))
 }
 
 fn transfers(plan: &Plan, links: &[u64]) -> u64 {

@@ -1,18 +1,21 @@
 //! Searches over links that cost unequally through the library, beside the plain search, which
 //! prices each division by a sum over every choice.
 
+use std::cmp::Reverse;
 use std::hint::black_box;
 
+use compare::choice::Choice;
 use compare::judge::{Refusal, HIGHEST_P, MOST_AXES};
 use compare::links::{self, fast, Found, Prices, Request};
-use compare::plan::planned;
+use compare::plan::{planned, Plan};
+use compare::price;
 use compare::random::Random;
 
 use crate::faults::{Entry, Lend};
 use crate::lawful::fitting;
 use crate::library::{self, Asked};
 use crate::plans::{shape, MADE};
-use crate::slots::{Slots, SLOTS, SMALL};
+use crate::slots::{spelled, Slots, SLOTS, SMALL};
 use crate::{nanoseconds, watched, Count};
 
 /// Cells that a search fills: the cost, the distance, how many divisions were priced, and then the
@@ -65,6 +68,7 @@ pub fn check(seed: u64, n: u64) -> Count {
     let cheaper = requested(&mut count, &mut random, n, u64::MAX);
     count.note(cheaper >= n / 10, || format!("the planner is undercut in {cheaper} of {n}"));
     many_divisions(&mut count, &mut random, n / 20);
+    runs(&mut count, &mut random, n / 20);
     every_refusal(&mut count, &mut random, 255);
     for number in ANSWERS {
         let seen = count.answers.contains(&(Entry::Search, number));
@@ -118,7 +122,7 @@ fn expect(count: &mut Count, request: &Request, len: usize, due: Result<Found, R
     Told { answer, cost: cells[0], distance: cells[1] }
 }
 
-#[derive(Clone, Copy)]
+#[derive(Clone, Copy, Debug)]
 struct Told {
     answer: u8,
     cost: u64,
@@ -248,6 +252,52 @@ fn alike(random: &mut Random, room: u64) -> Vec<u64> {
     let most = 1 << (room / axes).clamp(1, 15);
     (0..axes).map(|_| random.between(1, most)).collect()
 }
+
+/// Answers to so many random requests, each run as a plan.
+fn runs(count: &mut Count, random: &mut Random, n: u64) {
+    for _ in 0..n {
+        let lengths = alike(random, 12);
+        let (p, links) = (random.between(0, 6) as u32, weights(random, lengths.len()));
+        run(count, &Request { lengths, p, links, budget: u64::MAX });
+    }
+}
+
+/// In an order along which what a cell costs never rises, the plan with the answer's division has
+/// transfers that cost what the search says, each value at the link of the axis being summed.
+fn run(count: &mut Count, request: &Request) {
+    let found = links::search(request).expect("a request that is not refused");
+    let told = expect(count, request, FOUND, Ok(found.clone()));
+    let Request { lengths, links, .. } = request;
+    let mut order: Vec<usize> = (0..lengths.len()).collect();
+    order.sort_by_key(|&axis| Reverse(links::along(links, &found.exponents, axis)));
+    let p = found.exponents.iter().sum();
+    let plan = Plan { lengths: lengths.clone(), order, exponents: found.exponents, p };
+    let cost = transfers(&plan, links);
+    count.note(cost == Some(told.cost), || format!("{request:?}: {told:?}, run for {cost:?}"));
+}
+
+/// What the steps that the library tells of a plan transfer; `None` where it refuses one.
+fn transfers(plan: &Plan, links: &[u64]) -> Option<u64> {
+    let slots = spelled(plan);
+    let (mut steps, mut cost) = ([0], 0);
+    if watched::step_count(&slots, &mut steps) != 0 {
+        return None;
+    }
+    for position in 0..steps[0] {
+        let mut step = [0; 5];
+        if watched::step_at(&slots, position, &mut step) != 0 {
+            return None;
+        }
+        let [kind, _, _, choice, values] = step;
+        if kind == TRANSFER {
+            cost += values * links[price::last_summed(plan, choice as Choice)];
+        }
+    }
+    Some(cost)
+}
+
+/// The kind of a step that moves values.
+const TRANSFER: u64 = 2;
 
 /// As many points and boards as there can be; each takes the plain sums up to 30 ms.
 fn many_divisions(count: &mut Count, random: &mut Random, n: u64) {

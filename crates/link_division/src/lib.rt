@@ -1,4 +1,4 @@
-// A division's cost, and the division after another.
+// A division's cost, the division after another, and the first cheapest of so many.
 pub mod pricing;
 pub mod stepping;
 pub mod trying;

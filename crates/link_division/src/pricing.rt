@@ -31,7 +31,8 @@ fn fares(exponents: &[u8; 8], links: &[u32; 8], n: usize) -> [u64; 8]
     out
 }
 
-// How often an axis at the fare a multiplies the cells of the choices whose cheapest axis, at the fare b, comes after it: at a fare no higher it is kept.
+// What an axis, at the fare a, multiplies the cells by of the choices whose cheapest axis has a higher number, at the fare b: its length where its fare
+// is no higher, since it is kept then, and else one more, kept or summed.
 fn factor_before(length: u32, a: u64, b: u64) -> u64
     ensures { λ r. ⌜ ((j i : ℕ) → j < i → r ≡ factorOf length a b j i) ⌝ }
 {
@@ -42,7 +43,7 @@ fn factor_before(length: u32, a: u64, b: u64) -> u64
     len + 1
 }
 
-// And where that axis comes before it: at a lower fare it is kept.
+// The same where the cheapest axis has a lower number: its length where its fare is lower.
 fn factor_after(length: u32, a: u64, b: u64) -> u64
     ensures { λ r. ⌜ ((j i : ℕ) → i < j → r ≡ factorOf length a b j i) ⌝ }
 {

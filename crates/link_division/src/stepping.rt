@@ -32,8 +32,7 @@ pub fn fill(exponents: &mut [u8; 8], caps: &[u8; 8], n: usize, from: usize, amou
     }
 }
 
-// Goes to the division after another: from the last axis down, the first that can take one more from those after it, which are filled anew. Or says
-// that there is none.
+// Goes to the next division: the last axis that can take one more from those after it takes it, and these are filled anew. Or says that there is none.
 pub fn next(exponents: &mut [u8; 8], caps: &[u8; 8], n: usize) -> bool
     requires { ⌜ (n ≤ axisLimit) × (length (now exponents) ≡ axisLimit) × (length (now caps) ≡ axisLimit) × (sumList (take n (now exponents)) ≤ powerLimit) ⌝ }
     ensures { λ r. ⌜ went r (now (exponents .exit)) ≡ nextAs n (now (exponents .entry)) (nextOf (take n (now (caps .entry))) (take n (now (exponents .entry)))) ⌝ }

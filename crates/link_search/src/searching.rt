@@ -68,7 +68,7 @@ fn smallest_of(links: &[u32]) -> u32
     least
 }
 
-// How far below the cost any division with any parents may lie: no value that must move costs less than the smallest link weight.
+// 0 once all are priced, else the cost less the smallest link weight for each value that must move.
 fn distance_of(all: bool, cost: u64, weight: u32, moved: u64) -> u64
     requires { ⌜ weight * moved ≤ cost ⌝ }
     ensures { λ r. ⌜ r ≡ pick all 0 (cost - weight * moved) ⌝ }

@@ -48,6 +48,8 @@ module _ (ds : List ℕ) (p : ℕ) (links : List ℕ) where
         first = rw g (distance.first-so-far ds p links (ok .lengths .some) (ok .each) budget (ok .pays));
         cost = distance.cost-of ds p links (ok .lengths .some) (ok .each) budget (ok .pays) ∙ ap (cheapestCost ds links) (sym g);
         priced = unfold search in refl;
+        smallest-least = λ d h. distance.smallest-le links d (rw (ok .each) h);
+        smallest-some = rw (ok .each) at (distance.smallest-at links (rw (ok .each) (ok .lengths .axes)));
         early = distance.distance-some ds p links (ok .lengths .some) (ok .each) budget (ok .pays);
         whole = distance.distance-none ds p links (ok .lengths .some) (ok .each) budget (ok .pays);
         undercut = distance.undercut ds p links (ok .lengths .some) (ok .each) budget (ok .pays);

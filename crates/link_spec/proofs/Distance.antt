@@ -1,9 +1,10 @@
 -- What the search promises, for every budget: its answer is a division with parents that costs what it says, and no division with any parents undercuts it by more
 -- than the distance.
-use Prim.Native.Nat.{ℕ, zero, suc, _+_, _-_, _*_, _≤_, _<_}
+use Prim.Native.Nat.{ℕ, zero, suc, _+_, _-_, _*_, _≤_, _<_, min}
 use mathlib.Core.Path.{_≡_, _∙_, ap, sym, refl}
 use mathlib.Core.List.{List, [], _∷_}
 use native.Mathlib.Omega.{arith}
+use native.Mathlib.Decide.{decLe}
 use native.Mathlib.Nat.{le-refl, le-trans, mul-one, mul-comm, mul-le-mul-left}
 use lib.Dec.{leb}
 use lib.ListN.{length, getD, take, length-take}
@@ -30,13 +31,24 @@ use Rattle.link_spec.proofs.Cheapest.{first-cheapest, more-cheaper}
 
 -- ---- the smallest link weight
 
-smallest-le : (links : List ℕ) (d : ℕ) → d < length links → smallest links ≤ linkOf links d
+pub smallest-le : (links : List ℕ) (d : ℕ) → d < length links → smallest links ≤ linkOf links d
 unfolding smallest
 smallest-le [] d h = absurd (omega arith)
 smallest-le (w ∷ []) zero h = le-refl w
 smallest-le (w ∷ []) (suc d) h = absurd (omega arith)
 smallest-le (w ∷ v ∷ l) zero h = omega arith
 smallest-le (w ∷ v ∷ l) (suc d) h = let i = smallest-le (v ∷ l) d (omega arith) in omega arith
+
+pub smallest-at : (links : List ℕ) → 0 < length links → (d : ℕ) × (d < length links) × (linkOf links d ≡ smallest links)
+unfolding smallest
+smallest-at [] h = absurd (omega arith)
+smallest-at (w ∷ []) h = (0, omega arith, refl)
+smallest-at (w ∷ v ∷ l) h = go (decLe w (smallest (v ∷ l))) (smallest-at (v ∷ l) (omega arith))
+  where
+    go : Dec (w ≤ smallest (v ∷ l)) → (d : ℕ) × (d < length (v ∷ l)) × (linkOf (v ∷ l) d ≡ smallest (v ∷ l))
+        → (d : ℕ) × (d < length (w ∷ v ∷ l)) × (linkOf (w ∷ v ∷ l) d ≡ min w (smallest (v ∷ l)))
+    go (yes k) i = (0, omega arith, omega arith)
+    go (no k) i = let (d, m, e) = i in (suc d, omega arith, e ∙ omega arith)
 
 smallest-same : (links : List ℕ) (w : ℕ) → 0 < length links → ((d : ℕ) → d < length links → linkOf links d ≡ w) → smallest links ≡ w
 unfolding smallest

@@ -1,4 +1,4 @@
--- What the search promises of its answer `r` to a request that is not refused, however large the budget. `ds` are the lengths and `links` the link weights, both in
+-- What the search promises of its answer `r` to a request that is not refused, whatever the budget. `ds` are the lengths and `links` the link weights, both in
 -- axis order.
 use Prim.Native.Nat.{ℕ, _+_, _*_, _≤_, _<_, min}
 use mathlib.Core.Path.{_≡_}
@@ -10,7 +10,7 @@ use Rattle.plan_spec.specs.Plans.{moved}
 use Rattle.plan_spec.specs.Rule.{powerUsed, planWithin}
 use Rattle.link_spec.specs.declared.types.Searched.{Searched}
 use Rattle.link_spec.specs.Divisions.{inUse, Listing}
-use Rattle.link_spec.specs.Costs.{weightedCost, cheapestCost}
+use Rattle.link_spec.specs.Costs.{linkOf, weightedCost, cheapestCost}
 use Rattle.link_spec.specs.Search.{smallest}
 
 -- "the first cheapest": b stands in l at a place where all before cost more and none costs less
@@ -35,6 +35,9 @@ pub record Anytime (ds : List ℕ) (p : ℕ) (links : List ℕ) (budget : ℕ) (
   pub cost : r .cost ≡ cheapestCost ds links (division .exponents)
   -- "A budget says how many to price."
   pub priced : r .priced ≡ min budget (length (inUse ds p))
+  -- "the smallest link weight"
+  pub smallest-least : (d : ℕ) → d < length ds → smallest links ≤ linkOf links d
+  pub smallest-some : (d : ℕ) × (d < length ds) × (linkOf links d ≡ smallest links)
   -- "its cost less the smallest link weight times the planner's unweighted values moved, or 0 once all divisions are priced"
   pub early : budget < length (inUse ds p) → r .distance + smallest links * moved (planWithin ds p) ≡ r .cost
   pub whole : length (inUse ds p) ≤ budget → r .distance ≡ 0

@@ -29,7 +29,7 @@ leastFare kept fares (suc d) =
     let before = leastFare kept fares d in
     pick (kept d) before (some (upTo (fares d) before))
 
--- every choice but the full one sums some axis out, so none is never paid
+-- every choice but the full one sums some axis out, so `none` does not come up
 abbrev pub paid : Option ℕ → ℕ
 paid none = 0
 paid (some x) = x

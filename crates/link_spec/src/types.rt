@@ -1,5 +1,5 @@
 // The answer of the search: refusal 0 with the exponents by axis number, their cost, a distance, and how many divisions were priced; or the refusal
-// with nothing but zeros. No division with any parents costs less than the cost by more than the distance.
+// with nothing but zeros. No division, with any parents, costs less than the cost less the distance.
 pub struct Searched {
     pub refusal: u8,
     pub exponents: [u8; 8],

@@ -1,6 +1,7 @@
 -- `link_search::searching::out_of_range` meets its contract.
 use mathlib.Core.Path.{_≡_, refl, sym, _∙_}
 use Prim.Native.Nat.{_≤_, _-_, zero-le}
+use native.Mathlib.Omega.{arith}
 use lib.ListN.{length, drop}
 use Rattle.plan_spec.specs.Refusals.{some}
 use Rattle.plan_spec.proofs.Turns.{next-le}
@@ -29,14 +30,14 @@ returns-2 : tie.Need-returns-2 Inv-loop μ-loop
 returns-2 c =
     let s = c .before .before .before .before in
     let l = s .before .args .links .now in
-    sym (s .loop .inv .1 ∙ some-here badLink l (s .loop .i) (c .before .before .before .loop-test .taken) (link-over _ (c .if2 .taken)))
+    sym (s .loop .inv .1 ∙ some-here badLink l (s .loop .i) (c .before .before .before .loop-test .taken) (link-over _ (let w = c .if2 .taken in omega arith)))
 
 loop-again : tie.Need-loop-again Inv-loop μ-loop
 loop-again c =
     let s = c .before .before .before .before in
     let l = s .before .args .links .now in
     let h = c .before .before .before .loop-test .taken in
-    (next-le h, s .loop .inv .1 ∙ some-on badLink l (s .loop .i) h (link-good _ (c .before .if1 .left) (c .if2 .left)))
+    (next-le h, s .loop .inv .1 ∙ some-on badLink l (s .loop .i) h (link-good _ (c .before .if1 .left) (let w = c .if2 .left in omega arith)))
 
 returns-3 : tie.Need-returns-3 Inv-loop μ-loop
 returns-3 c =
