@@ -2,7 +2,7 @@
 use Prim.Native.Nat.{ℕ, zero, suc, _+_, _*_, _≤_, _<_, min}
 use mathlib.Core.Path.{_≡_, sym, _∙_, refl, ap}
 use mathlib.Core.Bool.{true, false}
-use mathlib.Core.List.{List}
+use mathlib.Core.List.{List, [], _∷_, _++_}
 use native.Mathlib.Nat.{mul-zero, mul-one, zero-add, le-trans, mul-le-mul-right}
 use native.Mathlib.Omega.{arith}
 use native.Mathlib.Decide.{decLe}
@@ -13,7 +13,7 @@ use Rattle.cube_spec.specs.Boxes.{product}
 use Rattle.cube_spec.specs.Choices.{keeps, fullMask, grandMask, lengthOf, keptLength, cells, cellCap, countedCells, points, Countable}
 use Rattle.cube_spec.proofs.Sums.{by}
 use Rattle.cube_spec.proofs.Boxing.{product-cong}
-use Rattle.cube_spec.proofs.Products.{product-le, product-ones, product-last}
+use Rattle.cube_spec.proofs.Products.{product-le, product-ones, product-last, product-shift}
 use Rattle.cube_spec.proofs.Digits.{keeps-past, keeps-full}
 
 pub kept-length : (ds : List ℕ) (mask d : ℕ) → keeps mask d ≡ true → keptLength ds mask d ≡ lengthOf ds d
@@ -96,3 +96,17 @@ grand-cell ds = product-ones (keptLength ds grandMask) (length ds) 0 (λ d l r. 
 pub full-cells : (ds : List ℕ) → cells ds (fullMask (length ds)) ≡ points ds
 unfolding cells points
 full-cells ds = product-cong (length ds) 0 (λ d l r. kept-length ds (fullMask (length ds)) d (keeps-full (length ds) d (omega arith)))
+
+-- ---- the points, one length after the other
+
+pub points-none : points [] ≡ 1
+unfolding points product
+points-none = refl
+
+pub points-first : (d : ℕ) (ds : List ℕ) → points (d ∷ ds) ≡ d * points ds
+unfolding points product
+points-first d ds = ap (λ x. d * x) (sym (product-shift (lengthOf (d ∷ ds)) (length ds) 0))
+
+pub points-last : (ds : List ℕ) (d : ℕ) → points (ds ++ d ∷ []) ≡ points ds * d
+points-last [] d = let e = points-first d [] in let n = points-none in omega arith
+points-last (x ∷ ds) d = rw (points-first x (ds ++ d ∷ []), points-first x ds, points-last ds d) (omega arith)

@@ -24,7 +24,8 @@ unfolding tableFrom
 table-cong zero d f g h = refl
 table-cong (suc m) d f g h = ap₂ _∷_ (h d (omega arith) (omega arith)) (table-cong m (d + 1) f g (λ i l r. h i (omega arith) (omega arith)))
 
-weight-cong : (n : ℕ) (f g : ℕ → ℕ) (i : ℕ) → i < n → ((j : ℕ) → j < n → f j ≡ g j) → weight n f i ≡ weight n g i
+-- the lengths below n alone matter
+pub weight-cong : (n : ℕ) (f g : ℕ → ℕ) (i : ℕ) → i < n → ((j : ℕ) → j < n → f j ≡ g j) → weight n f i ≡ weight n g i
 unfolding weight
 weight-cong n f g i h e = ap₂ _*_ (product-cong i 0 (λ j l r. ap (λ x. x + 1) (e j (omega arith)))) (product-cong (n - suc i) (suc i) (λ j l r. e j (omega arith)))
 

@@ -286,7 +286,7 @@ unfolding shareSize
 share-end n i most h k = let e : i ≡ n = omega arith in rw e
 
 -- the sizes below n alone matter
-starts-cong : (n k : ℕ) (most most′ : ℕ → ℕ) → ((d : ℕ) → d < n → most d ≡ most′ d) → regionStart n most k ≡ regionStart n most′ k
+pub starts-cong : (n k : ℕ) (most most′ : ℕ → ℕ) → ((d : ℕ) → d < n → most d ≡ most′ d) → regionStart n most k ≡ regionStart n most′ k
 unfolding regionStart regionSize choiceCells kept
 starts-cong n k most most′ same = sumN-cong k (λ i h. product-cong n 0 (λ d a b. ap (λ x. pick (has (i ∷ []) d) 1 x) (same d (omega arith))))
 

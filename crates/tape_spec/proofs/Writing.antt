@@ -221,7 +221,7 @@ module _ (ds : List ℕ) (p : ℕ) (vs : List ℤ) (h : Every (λ d. d < 2 ^ 16)
 
   -- so it is scanned and read as that, if it is within the limit
   module _ (few : length (written ds p vs) ≤ tapeLimit) where
-    passes : first (scanChecks (written ds p vs)) ≡ 0
+    pub passes : first (scanChecks (written ds p vs)) ≡ 0
     unfolding scanRefusal
     passes = rw (as-logged ds p vs) (judges-logged ds p (whole-log vs) h (whole-fits vs k) (rw (as-logged ds p vs) at few) ∙ none-refused vs)
 
@@ -236,6 +236,31 @@ module _ (ds : List ℕ) (p : ℕ) (vs : List ℤ) (h : Every (λ d. d < 2 ^ 16)
         let w = length-map vs centimetres in
         let n : commandCount (commands (logged ds p (whole-log vs))) ≡ length ds + length vs + 2 = omega arith in
         rw (passes, holds, as-logged ds p vs, n)
+
+-- ---- how long a tape of 56s is
+
+pub each-length : {A : Type 0} (f : A → List ℕ) (k : ℕ) → ((x : A) → length (f x) ≡ k) → (l : List A) → length (each f l) ≡ k * length l
+unfolding each
+each-length f k h [] = omega arith
+each-length f k h (x ∷ l) = let i = each-length f k h l in let e = h x in let a = length-append (f x) (each f l) in omega arith
+
+pub axis-length : (d : ℕ) → length (axisCommand d) ≡ 3
+unfolding axisCommand bytes
+axis-length d = refl
+
+pub point-length : (v : ℤ) → length (pointCommand v) ≡ 5
+unfolding pointCommand bytes
+point-length v = refl
+
+-- three bytes for each axis, five for each point, and three more
+pub written-length : (ds : List ℕ) (p : ℕ) (vs : List ℤ) → length (written ds p vs) ≡ 3 * length ds + 5 * length vs + 3
+unfolding written headed boardsCommand endCommand
+written-length ds p vs =
+    let a = each-length axisCommand 3 axis-length ds in
+    let b = each-length pointCommand 5 point-length vs in
+    let c = length-append (each axisCommand ds) (0x42 ∷ p ∷ (each pointCommand vs ++ 0x45 ∷ [])) in
+    let d = length-append (each pointCommand vs) (0x45 ∷ []) in
+    omega arith
 
 -- ---- a 52 of count n means what n 56s mean, among the points and whatever follows
 

@@ -6,12 +6,13 @@ use native.Mathlib.Omega.{arith}
 use borrow.Author.Tests.{ltb-true, ltb-false}
 use lib.Dec.{ltb}
 use lib.IntN.{ℤ}
-use lib.ListN.{length, take, drop, getD, List·getD-eq-default}
-use lib.Seq.{sets, sets-eq, length-sets, take-all, take-append-seam}
+use lib.ListN.{length, take, getD, List·getD-eq-default}
+use lib.Seq.{sets, take-all}
 use denote.Ref.{now}
 use contract.Lifetimes.{Lfts}
 use borrow.Fn.World.{ArgsD, ResD}
 use denote.Triple.Clauses.{AtExit}
+use Rattle.cube_spec.proofs.Stores.{stored-first}
 use Rattle.cube_spec.proofs.Sums.{by}
 use Rattle.plan_spec.specs.Plans.{PlanLists}
 use Rattle.plan_spec.specs.declared.types.Planned.{Planned}
@@ -120,17 +121,9 @@ lines-next : (tape : List ℕ) (k : ℕ) → joined (take k (printedLines tape))
 unfolding lineAt
 lines-next tape k = sym (joined-next (printedLines tape) k)
 
--- what a line puts at the start of a buffer
-put-there : (out line : List ℕ) (r : ℕ) → r ≡ length line → length line ≤ length out → take r (sets out 0 line) ≡ line
-put-there out line r e h =
-    let z : 0 + length line ≤ length out = omega arith in
-    ap₂ (λ n l. take n l) e (sets-eq line out 0 z) ∙ take-append-seam line (drop (0 + length line) out)
-
 -- what a call leaves in its buffer
 pub line-there : (tape : List ℕ) (k : ℕ) (out out′ : List ℕ) (r : ℕ) → r ≡ length (lineAt tape k) → r ≤ length out′ → out′ ≡ sets out 0 (lineAt tape k) → take r out′ ≡ lineAt tape k
-line-there tape k out out′ r e h p =
-    let n : length out′ ≡ length out = ap length p ∙ length-sets out 0 (lineAt tape k) in
-    ap (take r) p ∙ put-there out (lineAt tape k) r e (omega arith)
+line-there tape k out out′ r e h p = stored-first out out′ (lineAt tape k) r e h p
 
 stands-as : (t t′ : List ℕ) (j j′ : Planned) (k k′ : ℕ) (p p′ w w′ : List ℤ) (at at′ : ℕ) → t ≡ t′ → j ≡ j′ → k ≡ k′ → p ≡ p′ → w ≡ w′ → at ≡ at′ → Stands t′ j′ k′ p′ w′ at′ → Stands t j k p w at
 stands-as t t′ j j′ k k′ p p′ w w′ at at′ a b c d e f s = rw (a, b, c, d, e, f) s
