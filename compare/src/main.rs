@@ -7,12 +7,14 @@ use compare::judge::{self, Refusal};
 use compare::links::{Found, Prices, Request};
 use compare::plan::{planning, Plan, Planned};
 use compare::{
-    bench, check, description, listed, make, marked, patterns, price, scans, show, table, totals,
-    weighed,
+    bench, check, description, listed, make, marked, patterns, practice, price, scans, show, table,
+    totals, weighed,
 };
 
 const USAGE: &str = "\
 usage: compare totals                   tape on standard input, totals on standard output
+       compare practice                 seed line on standard input, the tape of the practice
+                                        campaign drawn from it on standard output
        compare tape                     campaign as text on standard input, its tape on
                                         standard output
        compare show                     report on standard input, its tables on standard
@@ -35,8 +37,8 @@ usage: compare totals                   tape on standard input, totals on standa
                                         tapes (with their output), scans (of other
                                         tapes), steps (with what is held), memory (after
                                         each step), marks (plans with their prices), links
-                                        (searches with their answers) or readings (with what
-                                        each gives)
+                                        (searches with their answers), practice (seed lines
+                                        with their tapes) or readings (with what each gives)
 
 A report is what is printed for a tape. A campaign as text, for example:
 
@@ -60,6 +62,7 @@ fn run(words: &[&str]) -> Option<io::Result<bool>> {
     let done = |result: io::Result<()>| Some(result.map(|()| true));
     match *words {
         ["totals"] => done(totals::run(io::stdin().lock(), io::stdout().lock())),
+        ["practice"] => done(practice::run(io::stdin().lock(), io::stdout().lock())),
         ["tape"] => done(description::run(io::stdin().lock(), io::stdout().lock())),
         ["show"] => done(show::run(io::stdin().lock(), io::stdout().lock())),
         ["plan", p, ref lengths @ ..] => {
@@ -113,6 +116,7 @@ fn module(topic: &str) -> Option<String> {
         "memory" => Some(listed::memory_module()),
         "marks" => Some(marked::module()),
         "links" => Some(weighed::module()),
+        "practice" => Some(practice::table::module()),
         "readings" => Some(patterns::module()),
         _ => None,
     }

@@ -1,7 +1,7 @@
 //! Small plans with their prices and whether they add up the fewest cells, as an antt module.
 
 use crate::plan::Plan;
-use crate::table::list;
+use crate::table::{list, row_group};
 use crate::{order, price, search};
 
 const OPENING: &str = "\
@@ -38,8 +38,7 @@ pub fn module() -> String {
 
 fn declared(Group { name, says, plans }: Group) -> String {
     let rows: Vec<String> = plans.iter().map(row).collect();
-    let rows = rows.join("\n    ∷ ");
-    format!("\n-- {says}\nunfoldable pub {name} : List Row\n{name} =\n    {rows}\n    ∷ []\n")
+    row_group(name, says, "Row", &rows)
 }
 
 fn row(plan: &Plan) -> String {

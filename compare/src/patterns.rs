@@ -4,7 +4,7 @@ use crate::judge::Refusal;
 use crate::random::Random;
 use crate::reading::{Reading, Unit, UNITS};
 use crate::spell::{self, Command};
-use crate::table::signed;
+use crate::table::{row_group, signed};
 use crate::tape::{self, Run};
 
 const SIGN: u32 = 1 << 31;
@@ -40,8 +40,7 @@ pub fn module() -> String {
 
 fn declared(Group { name, says, points }: Group) -> String {
     let rows: Vec<String> = points.iter().map(row).collect();
-    let rows = rows.join("\n    ∷ ");
-    format!("\n-- {says}\nunfoldable pub {name} : List Row\n{name} =\n    {rows}\n    ∷ []\n")
+    row_group(name, says, "Row", &rows)
 }
 
 /// What the tape's reader makes of a point.

@@ -3,7 +3,7 @@
 use crate::judge::{self, Refusal};
 use crate::plan::{planning, Planned};
 
-#[derive(Clone, Debug)]
+#[derive(Clone, Debug, PartialEq, Eq)]
 pub struct Shape {
     pub lengths: Vec<u16>,
     pub p: u8,

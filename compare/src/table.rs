@@ -78,6 +78,12 @@ fn spelled(tape: &[u8]) -> String {
     }
 }
 
+/// A named list of rows, one a line.
+pub fn row_group(name: &str, says: &str, kind: &str, rows: &[String]) -> String {
+    let rows = rows.join("\n    ∷ ");
+    format!("\n-- {says}\nunfoldable pub {name} : List {kind}\n{name} =\n    {rows}\n    ∷ []\n")
+}
+
 pub fn list<T: std::fmt::Display>(items: &[T]) -> String {
     let items: String = items.iter().map(|item| format!("{item} ∷ ")).collect();
     items + "[]"

@@ -2,7 +2,7 @@
 
 use crate::judge::{Refusal, MOST_AXES};
 use crate::links::{self, Found, Request};
-use crate::table::list;
+use crate::table::{list, row_group};
 
 const OPENING: &str = "\
 -- Small searches over links that cost unequally, with what each answers: the refusal, which is 0 for one that is taken, and then the
@@ -37,8 +37,7 @@ pub fn module() -> String {
 
 fn declared(Group { name, says, requests }: Group) -> String {
     let rows: Vec<String> = requests.iter().map(row).collect();
-    let rows = rows.join("\n    ∷ ");
-    format!("\n-- {says}\nunfoldable pub {name} : List Row\n{name} =\n    {rows}\n    ∷ []\n")
+    row_group(name, says, "Row", &rows)
 }
 
 fn row(request: &Request) -> String {
