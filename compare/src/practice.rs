@@ -1,6 +1,8 @@
 //! Practice campaigns: a tape that is drawn from a seed number, the same on every rack.
 
+pub mod inputs;
 pub mod table;
+pub mod wrong;
 
 use std::io::{self, BufRead, Write};
 use std::iter;
@@ -51,6 +53,10 @@ fn number(line: &[u8]) -> Option<u64> {
 }
 
 impl Exercise {
+    pub fn axes(&self) -> usize {
+        self.shape.lengths.len()
+    }
+
     pub fn tape(&self) -> Vec<u8> {
         let Shape { lengths, p } = &self.shape;
         spell::tape(lengths, *p, spell::singles(&self.points))

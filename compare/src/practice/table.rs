@@ -1,6 +1,6 @@
 //! Small exercises whole, how larger ones begin, what is refused, and draws, as an antt module.
 
-use super::{drawn, draws, generate, Exercise};
+use super::{drawn, draws, generate, halvings, Exercise};
 use crate::random::Random;
 use crate::shape::Shape;
 use crate::table::{list, row_group, signed};
@@ -44,6 +44,12 @@ pub fn module() -> String {
     OPENING.to_string() + &groups.concat()
 }
 
+/// What is read in each row, and the seed lines of the larger exercises.
+pub fn inputs() -> Vec<Vec<u8>> {
+    let starts = starts().into_iter().map(line).collect();
+    [small(), lines(), refusals(), starts].concat()
+}
+
 fn row(input: &[u8]) -> String {
     format!("record {{ input = {}; output = {} }}", list(input), list(&generate(input)))
 }
@@ -52,25 +58,34 @@ fn line(seed: u32) -> Vec<u8> {
     format!("{seed}\n").into_bytes()
 }
 
-const SMALL: &str = "tapes of at most 60 bytes: the first of each number of axes with each p, and the last of each number of axes";
+const SMALL: &str = "tapes of at most 60 bytes: each number of axes with each p, the last seeds, and lengths or points that are seldom drawn";
 
 const SMALL_TAPE: usize = 60;
 
+/// The first of each number of axes with each p, the last of each number of axes, and the first of
+/// those that a wrong generator may print otherwise.
 fn small() -> Vec<Vec<u8>> {
-    let shapes = (1..=4).flat_map(|axes| (0..=3).map(move |p| (axes, p)));
-    let first = |(axes, p)| {
-        let is = |seed: &u32| is_small(drawn(*seed), axes) && drawn(*seed).shape.p == p;
-        (1..=u32::MAX).find(is).expect("small ones of every kind")
-    };
-    let last = |axes| {
-        let is = |seed: &u32| is_small(drawn(*seed), axes);
-        (1..=u32::MAX).rev().find(is).expect("small ones of every kind")
-    };
-    shapes.map(first).chain((1..=4).map(last)).map(line).collect()
+    let up = || 1..=u32::MAX;
+    let mut seeds = Vec::new();
+    for axes in 1..=4 {
+        let with_p = |p| first(up(), |drawn| drawn.axes() == axes && drawn.shape.p == p);
+        seeds.extend((0..=3).map(with_p));
+    }
+    seeds.extend((1..=4).map(|axes| first(up().rev(), |drawn| drawn.axes() == axes)));
+    let not_halved = |drawn: &Exercise| halvings(&drawn.shape.lengths) == 0;
+    seeds.extend([1, 2].map(|axes| first(up(), |it| it.axes() == axes && not_halved(it))));
+    // The logs of 3 and 3 add up to less than that of their product.
+    seeds.extend([1, 2].map(|p| first(up(), |drawn| drawn.shape == Shape::new(&[3, 3], p))));
+    seeds.push(first(up(), |drawn| drawn.points.windows(2).any(|pair| pair[0] == pair[1])));
+    seeds.extend([0, -1_000, 1_000].map(|point| first(up(), |it| it.points.contains(&point))));
+    seeds.into_iter().map(line).collect()
 }
 
-fn is_small(exercise: Exercise, axes: usize) -> bool {
-    exercise.shape.lengths.len() == axes && exercise.tape().len() <= SMALL_TAPE
+/// The first seed whose tape is small and as it should be.
+fn first(mut seeds: impl Iterator<Item = u32>, is: impl Fn(&Exercise) -> bool) -> u32 {
+    let is_small = |drawn: &Exercise| drawn.tape().len() <= SMALL_TAPE;
+    let found = seeds.find(|&seed| Some(drawn(seed)).filter(is_small).is_some_and(|it| is(&it)));
+    found.expect("small tapes of every kind")
 }
 
 const LINES: &str = "ten digits, leading zeros up to ten digits, and bytes after the line feed, another seed line among them";
@@ -145,8 +160,8 @@ fn refusals() -> Vec<Vec<u8>> {
         b"1f\n",
         b"2.5\n",
         b"2,500\n",
-        b"/\n",
-        b":\n",
+        b"2/\n",
+        b"2:\n",
         b"2\xb5\n",
         b"\xff\n",
         b"\xef\xbc\x92\xef\xbc\x95\n",
@@ -163,6 +178,11 @@ fn starts() -> Vec<u32> {
     let any = std::iter::repeat_with(|| random.next() as u32);
     seeds.extend(any.filter(|&seed| seed > 0 && drawn(seed).points.len() >= 3).take(18));
     seeds
+}
+
+/// The seed line of a tape that no other is longer than.
+pub fn longest() -> Vec<u8> {
+    line(first_of_longest(0))
 }
 
 fn first_of_longest(p: u8) -> u32 {
