@@ -1,15 +1,19 @@
-//! Compares what a program prints for made tapes with direct sums, and sees how it ends when
-//! nobody takes what it prints, or not all of it.
+//! Compares what a program prints for made input with what is worked out here, and sees how it ends
+//! when nobody takes what it prints, or not all of it.
 
+pub mod counted;
 pub mod coverage;
 mod difference;
+mod handed;
 mod once;
 mod patience;
 mod shut;
 mod tapes;
+mod threads;
 
-use self::coverage::Counted;
+use self::counted::Counted;
 use self::patience::Patience;
+use crate::totals;
 
 /// One thing that was tried, and what was wrong with it.
 pub struct Case {
@@ -17,21 +21,33 @@ pub struct Case {
     pub fault: Option<String>,
 }
 
-/// So many tapes bring up every outcome, whatever the seed is.
+/// So many inputs bring up every outcome, whatever the seed is.
 const MANY: u64 = 5000;
 
 const FAULTS_SHOWN: usize = 5;
 
-/// Prints what was tried; true when nothing is wrong.
+/// The totals of made tapes. Prints what was tried; true when nothing is wrong.
 pub fn run(program: &str, seed: u64, count: u64) -> bool {
     let patience = Patience::default();
     let (tapes, outcomes) = tapes::compare_all(program, &patience, seed, count);
-    for Counted { name, number, .. } in coverage::counts(&outcomes) {
-        println!("{name:<20}{number:>8}");
+    let covered = covered(coverage::counts(&outcomes), count);
+    let shut = shut::cases(program, &patience, &tapes::for_shut_outputs());
+    let small = tapes::small();
+    let once = once::cases(program, &patience, &small, &totals::printed(&small));
+    print_all(&[tapes, covered, shut, once])
+}
+
+/// Prints how often each outcome came up; so few inputs may lack some.
+fn covered(counts: Vec<Counted>, count: u64) -> Vec<Case> {
+    counted::print(&counts);
+    if count < MANY {
+        return Vec::new();
     }
-    let covered = if count >= MANY { coverage::cases(&outcomes) } else { Vec::new() };
-    let shut = shut::cases(program, &patience);
-    let parts = [tapes, covered, shut, once::cases(program, &patience)];
+    counted::cases(counts)
+}
+
+/// What is wrong, and how much is not; true when nothing is.
+fn print_all(parts: &[Vec<Case>]) -> bool {
     parts.iter().for_each(|part| print_faults(part));
     let tried: usize = parts.iter().map(Vec::len).sum();
     let failed: usize = parts.iter().map(|part| faulty(part).count()).sum();

@@ -7,6 +7,7 @@ use std::process::Command;
 use std::time::{Duration, Instant};
 
 use common::process::{compare, last_line, script, text, PROGRAM};
+use compare::check::counted;
 use compare::check::coverage::{self, Idle, Outcome};
 use compare::pieces::Pieces;
 use compare::program;
@@ -235,11 +236,11 @@ fn every_outcome() -> Vec<Outcome> {
 
 #[test]
 fn an_outcome_that_does_not_come_up_fails() {
-    let failed = |outcomes: &[Outcome]| {
-        coverage::cases(outcomes).iter().filter(|case| case.fault.is_some()).count()
-    };
+    let cases = |outcomes: &[Outcome]| counted::cases(coverage::counts(outcomes));
+    let failed =
+        |outcomes: &[Outcome]| cases(outcomes).iter().filter(|case| case.fault.is_some()).count();
     let every = every_outcome();
-    assert_eq!((coverage::cases(&every).len(), failed(&every)), (31, 0));
+    assert_eq!((cases(&every).len(), failed(&every)), (31, 0));
     assert_eq!(failed(&[]), 31);
     for left_out in 0..every.len() {
         let mut others = every.clone();
@@ -255,7 +256,7 @@ fn an_outcome_that_does_not_come_up_fails() {
 fn too_few_idle_boards_fail() {
     let with = |idle, number| vec![Outcome::Accepted { axes: 1, p: 0, idle }; number];
     let fails = |outcomes: &[Outcome]| {
-        let cases = coverage::cases(outcomes);
+        let cases = counted::cases(coverage::counts(outcomes));
         cases.iter().find(|case| case.name == "accepted, idle").unwrap().fault.is_some()
     };
     assert!(fails(&[with(Idle::None, 31), with(Idle::Some, 9)].concat()));

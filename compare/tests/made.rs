@@ -5,7 +5,8 @@ mod common;
 use std::collections::{BTreeMap, BTreeSet};
 
 use common::highest_p;
-use compare::check::coverage::{self, Counted, Outcome};
+use compare::check::counted::Counted;
+use compare::check::coverage::{self, Outcome};
 use compare::make::{kind_count, made, Due, Made};
 use compare::random::Random;
 use compare::tape::{self, LONGEST_TAPE};

@@ -1,6 +1,6 @@
 //! Which outcomes the tapes brought up, by this program.
 
-use super::Case;
+use super::counted::Counted;
 use crate::judge::{Refusal, HIGHEST_P, MOST_AXES, PROGRAM_LIMIT};
 use crate::plan::Planned;
 use crate::totals;
@@ -28,13 +28,6 @@ impl Idle {
             _ => Idle::Some,
         }
     }
-}
-
-/// How often an outcome came up, and how often it must.
-pub struct Counted {
-    pub name: String,
-    pub number: usize,
-    pub least: usize,
 }
 
 /// The refusals that the program can give, in the checking order.
@@ -100,13 +93,4 @@ pub fn counts(outcomes: &[Outcome]) -> Vec<Counted> {
     let past = |outcome: Outcome| outcome.idle() == Some(Idle::PastLimit);
     count("accepted, idle past".to_string(), 1, &past);
     counts
-}
-
-/// An outcome that never came up, or came up too seldom, was not tried.
-pub fn cases(outcomes: &[Outcome]) -> Vec<Case> {
-    let case = |Counted { name, number, least }| {
-        let says = || format!("  {number} among the tapes, and at least {least} are due");
-        Case { name, fault: (number < least).then(says) }
-    };
-    counts(outcomes).into_iter().map(case).collect()
 }

@@ -31,7 +31,7 @@ fn first_difference(expected: &[u8], output: &[u8]) -> usize {
 }
 
 /// Some bytes from a little before the place on.
-fn shortened(bytes: &[u8], place: usize) -> String {
+pub fn shortened(bytes: &[u8], place: usize) -> String {
     let from = place.saturating_sub(BYTES_SHOWN / 2).min(bytes.len());
     let to = (from + BYTES_SHOWN).min(bytes.len());
     let before = if from > 0 { ".." } else { "" };

@@ -1,5 +1,5 @@
 //! An output that fails once and then takes more: nothing may follow a write that failed, since
-//! a report whose last line is there counts as whole.
+//! what has its end counts as whole, a report by its last line and a tape by its last command.
 
 use std::fs::File;
 use std::io::{self, ErrorKind, Read, Write};
@@ -7,50 +7,46 @@ use std::os::fd::{AsFd, AsRawFd};
 use std::os::unix::fs::OpenOptionsExt;
 use std::process::Command;
 
+use super::handed::cannot_run;
 use super::patience::Patience;
 use super::shut;
 use super::Case;
 use crate::program;
-use crate::spell;
-use crate::totals;
 
 /// A write that finds no room fails and does not wait. The number is Linux's.
 const O_NONBLOCK: i32 = 0o4000;
 
 const PAGE: usize = 4096;
 
-/// Every room that the report does not fit in, so that, however a program cuts what it writes, each
+/// Every room that what is due does not fit in, so that, however a program cuts what it writes, each
 /// of its writes is once the first that finds too little room; a shorter one after it may find
 /// enough.
-pub fn cases(program: &str, patience: &Patience) -> Vec<Case> {
-    let points = [1, -2, 3, 4, 5, -6];
-    let tape = spell::tape(&[2, 3], 1, spell::singles(&points));
-    let report = totals::printed(&tape);
+pub fn cases(program: &str, patience: &Patience, input: &[u8], due: &[u8]) -> Vec<Case> {
     let case = |room| {
-        let fault = match patience.run(|| fault_with_room(program, &tape, &report, room)) {
+        let fault = match patience.run(|| fault_with_room(program, input, due, room)) {
             Ok(fault) => fault,
-            Err(error) => Some(format!("  cannot run: {error}")),
+            Err(error) => Some(cannot_run(error)),
         };
         Case { name: format!("output that fails once, after {room} bytes"), fault }
     };
-    (0..report.len()).map(case).collect()
+    (0..due.len()).map(case).collect()
 }
 
 fn fault_with_room(
     program: &str,
-    tape: &[u8],
-    report: &[u8],
+    input: &[u8],
+    due: &[u8],
     room: usize,
 ) -> io::Result<Option<String>> {
     let mut pipe = Pipe::with_room(room)?;
     let output = pipe.writer.try_clone()?.into();
-    let (errors, status) = program::run_into(output, &mut Command::new(program), tape)?;
+    let (errors, status) = program::run_into(output, &mut Command::new(program), input)?;
     let taken = pipe.taken_from_program()?;
-    Ok(shut::fault(&errors, status).or_else(|| fault_unless_beginning(report, &taken)))
+    Ok(shut::fault(&errors, status).or_else(|| fault_unless_beginning(due, &taken)))
 }
 
-fn fault_unless_beginning(report: &[u8], taken: &[u8]) -> Option<String> {
-    let begins = report.starts_with(taken);
+fn fault_unless_beginning(due: &[u8], taken: &[u8]) -> Option<String> {
+    let begins = due.starts_with(taken);
     (!begins).then(|| format!("  after a write that failed: {}", taken.escape_ascii()))
 }
 

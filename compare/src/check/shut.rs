@@ -8,11 +8,10 @@ use std::process::{Command, ExitStatus, Stdio};
 use std::thread;
 
 use super::difference::on_errors;
+use super::handed::cannot_run;
 use super::patience::Patience;
 use super::Case;
 use crate::program;
-use crate::spell;
-use crate::tape::Run;
 
 const SIGPIPE: i32 = 13;
 
@@ -25,32 +24,23 @@ const OUTPUTS: [(&str, Output); 4] = [
     ("output that is read in part", left),
 ];
 
-pub fn cases(program: &str, patience: &Patience) -> Vec<Case> {
+/// Each input into each of these outputs. An input has a word for what is printed for it.
+pub fn cases(program: &str, patience: &Patience, inputs: &[(&str, Vec<u8>)]) -> Vec<Case> {
     let mut cases = Vec::new();
-    for (report, tape) in tapes() {
+    for (printed, input) in inputs {
         for (name, output) in OUTPUTS {
             let run = || {
                 let (mut command, output) = output(program)?;
-                program::run_into(output, &mut command, &tape)
+                program::run_into(output, &mut command, input)
             };
             let fault = match patience.run(run) {
                 Ok((errors, status)) => fault(&errors, status),
-                Err(error) => Some(format!("  cannot run: {error}")),
+                Err(error) => Some(cannot_run(error)),
             };
-            cases.push(Case { name: format!("{name}, {report}"), fault });
+            cases.push(Case { name: format!("{name}, {printed}"), fault });
         }
     }
     cases
-}
-
-/// What is printed for the second is more than a pipe holds.
-fn tapes() -> [(&'static str, Vec<u8>); 3] {
-    let equal = |count| vec![spell::repeat(Run { count, point: i32::MIN })];
-    [
-        ("a short report", spell::tape(&[2, 3], 1, equal(6))),
-        ("a long report", spell::tape(&[4, 3, 3, 3, 3, 2, 2, 2], 0, equal(2592))),
-        ("a refusal", Vec::new()),
-    ]
 }
 
 /// Only a shell can close it.
