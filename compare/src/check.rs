@@ -4,6 +4,7 @@
 pub mod counted;
 pub mod coverage;
 mod difference;
+pub mod exercises;
 mod handed;
 mod once;
 mod patience;

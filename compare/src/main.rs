@@ -32,6 +32,9 @@ usage: compare totals                   tape on standard input, totals on standa
                                         summed: compare links 3 4,9 1,5 2
        compare tapes SEED N DIR         write N made tapes, each with what is printed for it
        compare check PROGRAM SEED N     run a program on N made tapes and compare
+       compare exercises GENERATOR TOTALS SEED N
+                                        run a generator on lines of N seeds and on damaged
+                                        ones, and another program on its tapes, and compare
        compare bench [PROGRAM]          time the largest campaigns, each as a whole process
        compare table TOPIC              cases for the definitions, as an antt module:
                                         tapes (with their output), scans (of other
@@ -89,6 +92,10 @@ fn run(words: &[&str]) -> Option<io::Result<bool>> {
         }
         ["check", program, seed, count] => {
             Some(Ok(check::run(program, seed.parse().ok()?, count.parse().ok()?)))
+        }
+        ["exercises", generator, totals, seed, count] => {
+            let (seed, count) = (seed.parse().ok()?, count.parse().ok()?);
+            Some(Ok(check::exercises::run(generator, totals, seed, count)))
         }
         ["bench"] => Some(bench::run(None)),
         ["bench", program] => Some(bench::run(Some(program))),

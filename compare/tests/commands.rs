@@ -3,16 +3,19 @@
 mod common;
 
 use std::fs;
+use std::io::{Read, Write};
+use std::process::{Command, Stdio};
 
-use common::process::{compare, temporary, text};
-use compare::{make, table, totals};
+use common::process::{compare, compare_on, temporary, text, PROGRAM};
+use compare::{make, practice, table, totals};
 
 #[test]
 fn bad_arguments_get_the_usage() {
-    let commands: [&[&str]; 22] = [
+    let commands: [&[&str]; 26] = [
         &[],
         &["sum"],
         &["totals", "x"],
+        &["practice", "1"],
         &["tape", "x"],
         &["show", "x"],
         &["plan"],
@@ -32,6 +35,9 @@ fn bad_arguments_get_the_usage() {
         &["tapes", "1", "2"],
         &["check", "true", "1"],
         &["check", "true", "1", "x"],
+        &["exercises", "true", "1", "2"],
+        &["exercises", "true", "true", "1", "x"],
+        &["exercises", "true", "true", "-1", "2"],
     ];
     for words in commands {
         let output = compare(words);
@@ -130,6 +136,44 @@ fn links_prints_refusals() {
     refused("3", "4,9", "1,5,1", "1", 19);
     refused("3", "4,9", "1,1001", "1", 19);
     refused("3", "4,9", "0,5", "1", 19);
+}
+
+/// Length 3, p 0, and the points 862, -184 and 719.
+#[test]
+fn practice_prints_a_tape_or_a_refusal() {
+    let tape = b"A\x03\0B\0V\x5e\x03\0\0V\x48\xff\xff\xffV\xcf\x02\0\0E";
+    for input in [&b"25\n"[..], b"0000000025\n", b"25\nrefused\n"] {
+        let answer = compare_on(&["practice"], input);
+        assert_eq!(answer.output, tape, "{}", input.escape_ascii());
+        assert!(answer.status.success() && answer.errors.is_empty());
+    }
+    for input in [&b"0\n"[..], b"25", b"25\r\n", b""] {
+        let answer = compare_on(&["practice"], input);
+        assert_eq!(answer.output, b"refused 22\n", "{}", input.escape_ascii());
+        assert!(answer.status.success() && answer.errors.is_empty());
+    }
+}
+
+/// At a terminal nobody has to end the input.
+#[test]
+fn practice_answers_before_the_input_ends() {
+    let mut command = Command::new(PROGRAM);
+    command.arg("practice").stdin(Stdio::piped()).stdout(Stdio::piped());
+    let mut child = command.spawn().unwrap();
+    let mut input = child.stdin.take().unwrap();
+    input.write_all(b"25\n").unwrap();
+    let mut output = Vec::new();
+    child.stdout.take().unwrap().read_to_end(&mut output).unwrap();
+    assert_eq!(output, practice::generate(b"25\n"));
+    drop(input);
+    assert!(child.wait().unwrap().success());
+}
+
+#[test]
+fn practice_tapes_have_totals() {
+    let tape = compare_on(&["practice"], b"25\n").output;
+    let report = compare_on(&["totals"], &tape).output;
+    assert_eq!(text(&report), "plan 1 0 0 3 1\ndim 0 3 0\ngroup 0 1397\nend 1\n");
 }
 
 #[test]

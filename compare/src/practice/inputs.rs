@@ -46,16 +46,15 @@ pub fn always() -> Vec<Vec<u8>> {
     [table::inputs(), numbers(), bytes()].concat()
 }
 
-/// Powers of two and of ten with the numbers beside them, each also with as many zeros before it as
-/// make it ten digits, or eleven.
+/// Powers of two and of ten with the numbers beside them, and these with zeros before them to ten
+/// digits; those of ten also to eleven.
 fn numbers() -> Vec<Vec<u8>> {
-    let twos = (0..=34).chain([63, 64]).map(|power| 1_u128 << power);
-    let tens = (0..=11).chain([19, 20]).map(|power| 10_u128.pow(power));
-    let beside = |power| [power - 1, power, power + 1];
-    let numbers: BTreeSet<u128> = twos.chain(tens).flat_map(beside).collect();
-    let spelled =
-        |number| [format!("{number}\n"), format!("{number:010}\n"), format!("{number:011}\n")];
-    let lines: BTreeSet<String> = numbers.into_iter().flat_map(spelled).collect();
+    let beside = |power: u128| [power - 1, power, power + 1];
+    let twos = (0..=34).chain([63, 64]).map(|power| 1_u128 << power).flat_map(beside);
+    let tens = (0..=11).chain([19, 20]).map(|power| 10_u128.pow(power)).flat_map(beside);
+    let to_ten = |number| [format!("{number}\n"), format!("{number:010}\n")];
+    let mut lines: BTreeSet<String> = twos.chain(tens.clone()).flat_map(to_ten).collect();
+    lines.extend(tens.map(|number| format!("{number:011}\n")));
     lines.into_iter().map(String::into_bytes).collect()
 }
 
