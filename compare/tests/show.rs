@@ -142,32 +142,63 @@ fn lines_stay_narrow() {
     }
 }
 
+/// By the numbers that the program, the generator and the commands here print, and those of a
+/// library call.
+const REFUSALS: [(u8, &str); 18] = [
+    (1, "longer than 65,536 bytes"),
+    (2, "departs from its form"),
+    (3, "no axis, there are more than 8"),
+    (4, "is 0 or over 65,535"),
+    (5, "over 16,777,216"),
+    (6, "p is over 10"),
+    (7, "so many boards"),
+    (8, "name each axis once"),
+    (9, "do not sum to p"),
+    (10, "the number of points"),
+    (11, "8,192 each in the program"),
+    (12, "past the last step"),
+    (13, "result slice"),
+    (14, "infinite or not a number"),
+    (15, "outside -2,147,483,647 to 2,147,483,647"),
+    (18, "the budget"),
+    (19, "a link weight is 0 or over 1,000"),
+    (22, "the seed is 0 or over 4,294,967,295, or no line of one to ten digits"),
+];
+
 #[test]
 fn refusals_in_plain_words() {
-    let words = [
-        "longer than 65,536 bytes",
-        "departs from its form",
-        "no axis, there are more than 8",
-        "is 0 or over 65,535",
-        "over 16,777,216",
-        "p is over 10",
-        "so many boards",
-        "name each axis once",
-        "do not sum to p",
-        "the number of points",
-        "8,192 each in the program",
-        "past the last step",
-        "result slice",
-        "infinite or not a number",
-        "outside -2,147,483,647 to 2,147,483,647",
-    ];
-    for (number, words) in (1..).zip(words) {
+    for (number, words) in REFUSALS {
         let answer = compare_on(&["show"], format!("refused {number}\n").as_bytes());
         let told = text(&answer.output);
         let begins = format!("refused, by line {number} of the checking order: ");
         assert!(told.starts_with(&begins) && told.contains(words), "{told}");
         assert_eq!(told.lines().count(), 1);
         assert!(answer.errors.is_empty() && answer.status.success());
+    }
+}
+
+#[test]
+fn no_other_number_refuses() {
+    let known = REFUSALS.map(|(number, _)| u16::from(number));
+    for number in (0..=300).filter(|number| !known.contains(number)) {
+        let says = format!("the checking order has no line {number}");
+        fault(&format!("refused {number}\n"), 1, &says);
+    }
+}
+
+/// Whatever refuses here, its line is one that is shown.
+#[test]
+fn printed_refusals_are_shown() {
+    let commands: [(&[&str], &[u8], &str); 5] = [
+        (&["totals"], b"", "departs from its form"),
+        (&["practice"], b"0\n", "the seed is 0"),
+        (&["price", "6,2", "0,0", "0,1"], b"", "name each axis once"),
+        (&["links", "3", "4,9", "1,5", "0"], b"", "the budget is 0"),
+        (&["links", "3", "4,9", "1", "1"], b"", "not one for each axis"),
+    ];
+    for (words, input, why) in commands {
+        let told = shown(&text(&compare_on(words, input).output));
+        assert!(told.contains(why), "{words:?}: {told}");
     }
 }
 
@@ -189,9 +220,6 @@ fn texts_that_are_no_report() {
     fault("", 1, "the text ends where a line 'plan ..' is due");
     fault("\n", 1, "a line 'plan ..' is due, not \"\"");
     fault("Hello world\n", 1, "a line 'plan ..' is due, not \"Hello\"");
-    fault("refused 0\n", 1, "the checking order has no line 0");
-    fault("refused 16\n", 1, "the checking order has no line 16");
-    fault("refused 300\n", 1, "the checking order has no line 300");
     fault("refused\n", 1, "numbers of 'refused': 0, not 1");
     fault("refused 2", 1, "no line feed ends the line");
     fault("refused 2\n\n", 2, "the report has ended, and the text goes on");
