@@ -7,7 +7,7 @@ mod difference;
 pub mod exercises;
 mod handed;
 mod once;
-mod patience;
+pub mod patience;
 mod shut;
 mod tapes;
 mod threads;

@@ -1,6 +1,7 @@
 //! Runs a program on a tape, as a process of its own.
 
 use std::io::{self, Read};
+use std::os::fd::{AsFd, OwnedFd};
 use std::process::{Child, Command, ExitStatus, Stdio};
 use std::sync::mpsc::{self, Receiver};
 use std::time::{Duration, Instant};
@@ -22,11 +23,12 @@ pub fn run(command: &mut Command, tape: &[u8]) -> io::Result<Answer> {
 }
 
 pub fn run_within(limit: Duration, command: &mut Command, tape: Pieces) -> io::Result<Answer> {
-    let mut running = Running::start(limit, command.stdout(Stdio::piped()), tape)?;
-    let output = read_all(running.child.stdout.take().expect("output is piped"));
-    let output = running.received(&output)?;
-    let (errors, status) = running.ended()?;
-    Ok(Answer { output, errors, status })
+    Running::start(limit, command.stdout(Stdio::piped()), tape, Input::Ends)?.answer()
+}
+
+/// As from a terminal, where nobody ends the input before the program has ended.
+pub fn run_open(limit: Duration, command: &mut Command, tape: Pieces) -> io::Result<Answer> {
+    Running::start(limit, command.stdout(Stdio::piped()), tape, Input::StaysOpen)?.answer()
 }
 
 /// What stands on standard error, when the output goes elsewhere.
@@ -35,7 +37,14 @@ pub fn run_into(
     command: &mut Command,
     tape: &[u8],
 ) -> io::Result<(Vec<u8>, ExitStatus)> {
-    Running::start(LONGEST_RUN, command.stdout(output), Pieces::whole(tape))?.ended()
+    let tape = Pieces::whole(tape);
+    Running::start(LONGEST_RUN, command.stdout(output), tape, Input::Ends)?.ended()
+}
+
+/// Whether the input ends with the tape, or not while the program runs.
+enum Input {
+    Ends,
+    StaysOpen,
 }
 
 /// All pipes are served at once, so that none can fill up and wait.
@@ -43,16 +52,35 @@ struct Running {
     child: Child,
     errors: Receiver<Vec<u8>>,
     until: Instant,
+    /// A second end to write to, for nothing but that the input stays open.
+    _open: Option<OwnedFd>,
 }
 
 impl Running {
-    fn start(limit: Duration, command: &mut Command, tape: Pieces) -> io::Result<Running> {
+    fn start(
+        limit: Duration,
+        command: &mut Command,
+        tape: Pieces,
+        input: Input,
+    ) -> io::Result<Running> {
         let mut child = command.stdin(Stdio::piped()).stderr(Stdio::piped()).spawn()?;
-        let input = child.stdin.take().expect("input is piped");
+        let pipe = child.stdin.take().expect("input is piped");
+        let open = match input {
+            Input::Ends => None,
+            Input::StaysOpen => Some(pipe.as_fd().try_clone_to_owned()?),
+        };
         // A program may stop reading once the tape is too long, so a broken pipe is no fault.
-        thread::spawn(move || tape.write(input).ok());
+        thread::spawn(move || tape.write(pipe).ok());
         let errors = read_all(child.stderr.take().expect("errors are piped"));
-        Ok(Running { child, errors, until: Instant::now() + limit })
+        Ok(Running { child, errors, until: Instant::now() + limit, _open: open })
+    }
+
+    /// Where the output is piped.
+    fn answer(mut self) -> io::Result<Answer> {
+        let output = read_all(self.child.stdout.take().expect("output is piped"));
+        let output = self.received(&output)?;
+        let (errors, status) = self.ended()?;
+        Ok(Answer { output, errors, status })
     }
 
     fn received(&self, pipe: &Receiver<Vec<u8>>) -> io::Result<Vec<u8>> {

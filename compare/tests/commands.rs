@@ -3,11 +3,11 @@
 mod common;
 
 use std::fs;
-use std::io::{Read, Write};
-use std::process::{Command, Stdio};
+use std::process::Command;
 
 use common::process::{compare, compare_on, temporary, text, PROGRAM};
-use compare::{make, practice, table, totals};
+use compare::pieces::Pieces;
+use compare::{make, practice, program, table, totals};
 
 #[test]
 fn bad_arguments_get_the_usage() {
@@ -154,19 +154,17 @@ fn practice_prints_a_tape_or_a_refusal() {
     }
 }
 
-/// At a terminal nobody has to end the input.
+/// At a terminal nobody has to end the input, be it a line or too much for one.
 #[test]
 fn practice_answers_before_the_input_ends() {
-    let mut command = Command::new(PROGRAM);
-    command.arg("practice").stdin(Stdio::piped()).stdout(Stdio::piped());
-    let mut child = command.spawn().unwrap();
-    let mut input = child.stdin.take().unwrap();
-    input.write_all(b"25\n").unwrap();
-    let mut output = Vec::new();
-    child.stdout.take().unwrap().read_to_end(&mut output).unwrap();
-    assert_eq!(output, practice::generate(b"25\n"));
-    drop(input);
-    assert!(child.wait().unwrap().success());
+    for input in [&b"25\n"[..], b"25\n7", b"7x\n", b"12345678901"] {
+        let mut command = Command::new(PROGRAM);
+        command.arg("practice");
+        let open = Pieces::whole(input);
+        let answer = program::run_open(program::LONGEST_RUN, &mut command, open).unwrap();
+        assert_eq!(answer.output, practice::generate(input), "{}", input.escape_ascii());
+        assert!(answer.status.success() && answer.errors.is_empty());
+    }
 }
 
 #[test]

@@ -4,20 +4,23 @@
 mod common;
 
 use std::process::Output;
+use std::time::{Duration, Instant};
 
 use common::process::{compare, last_line, script, text, PROGRAM};
-use compare::check::counted;
-use compare::check::exercises::drawn_for;
 use compare::check::exercises::outcome::{self, Outcome};
+use compare::check::exercises::{drawn_for, open};
+use compare::check::patience::Patience;
+use compare::check::{counted, Case};
 use compare::practice::{generate, inputs, seed};
 use compare::shape::Shape;
 
 const SEEDS: u64 = 30;
 
-/// What is tried: inputs, three of them into four outputs, and one into an output with every room
-/// that its tape does not fit in.
+/// What is tried: inputs, three of them into four outputs, one into an output with every room that
+/// its tape does not fit in, and inputs that are not ended.
 fn tried() -> usize {
-    inputs::always().len() + drawn_for(1, SEEDS) as usize + 3 * 4 + generate(b"5\n").len()
+    let ended = inputs::always().len() + drawn_for(1, SEEDS) as usize;
+    ended + 3 * 4 + generate(b"5\n").len() + inputs::open().len()
 }
 
 /// Of what is always tried.
@@ -98,6 +101,68 @@ fn one_read_is_not_enough() {
     let in_pieces = |line: &str| line.contains(", pieces ") && !line.contains(", pieces 1: ");
     fails(&output, 1, "  first at byte ");
     assert!(text(&output.stdout).lines().any(in_pieces));
+}
+
+/// Right wherever the input is ended: it fails on the others, and on nothing else.
+#[test]
+fn the_end_must_not_be_waited_for() {
+    let output = exercises(&generator("waits", "tail -c 200000 | PRACTICE"), &totals());
+    let (told, open) = (text(&output.stdout), inputs::open().len());
+    assert_eq!(counts(&output), (tried() - open, open), "{told}");
+    let lines: Vec<&str> = told.lines().collect();
+    let faults: Vec<_> = lines.windows(2).filter(|lines| lines[1].starts_with("  ")).collect();
+    assert_eq!(faults.len(), 5, "{told}");
+    for fault in faults {
+        assert!(fault[0].starts_with("input that is not ended, pieces "), "{told}");
+        assert_eq!(fault[1], "  cannot run: no answer in time", "{told}");
+    }
+}
+
+/// The generator waits on these of the inputs that are not ended, and on no other.
+#[track_caller]
+fn waits_on(name: &str, body: &str, waits: fn(&[u8]) -> bool) {
+    let begun = Instant::now();
+    let cases = open::cases(&generator(name, body), &Patience::default(), 1);
+    let inputs = inputs::open();
+    assert_eq!(cases.len(), inputs.len());
+    for (Case { name, fault }, input) in cases.iter().zip(inputs) {
+        let due = waits(&input).then_some("  cannot run: no answer in time");
+        assert_eq!(fault.as_deref(), due, "{name}");
+    }
+    // Each is given five, but not one after the other.
+    assert!(begun.elapsed() < Duration::from_secs(20), "{:?}", begun.elapsed());
+}
+
+#[test]
+fn who_answers_the_line_passes() {
+    waits_on("at_once", "exec PRACTICE", |_| false);
+}
+
+/// As for a line of eleven bytes.
+#[test]
+fn a_short_line_is_enough() {
+    waits_on("eleven", "head -c 11 | PRACTICE", |input| input.len() < 11);
+}
+
+/// No line feed that comes later makes them a line.
+#[test]
+fn eleven_digits_are_enough() {
+    waits_on("line", "sed 1q | PRACTICE", |input| !input.contains(&b'\n'));
+}
+
+/// All is printed, but the generator does not end.
+#[test]
+fn what_follows_must_not_be_waited_for() {
+    waits_on("reads_on", "PRACTICE; exec cat >/dev/null", |_| true);
+}
+
+/// Decided too early: a byte is taken for the line.
+#[test]
+fn an_open_input_gets_what_is_due() {
+    let wrong = generator("one_byte", "(head -c 1; echo) | PRACTICE");
+    let cases = open::cases(&wrong, &Patience::default(), 1);
+    let told = |case: &Case| case.fault.as_ref().is_some_and(|fault| fault.contains("  first at"));
+    assert!(cases.iter().filter(|case| told(case)).count() > 20);
 }
 
 /// The generator is right.

@@ -164,6 +164,19 @@ fn a_program_that_hangs_is_stopped() {
     }
 }
 
+/// Who reads all of it is not done, and who reads a part of it is.
+#[test]
+fn an_open_input_has_no_end() {
+    let answer = |limit, body: &str| {
+        let mut command = Command::new("sh");
+        command.args(["-c", body]);
+        program::run_open(limit, &mut command, Pieces::whole(b"seven and more"))
+    };
+    let all = answer(Duration::from_millis(300), "cat");
+    assert_eq!(all.err().unwrap().kind(), io::ErrorKind::TimedOut);
+    assert_eq!(answer(program::LONGEST_RUN, "head -c 5").unwrap().output, b"seven");
+}
+
 /// The pipe breaks on the writer's side.
 #[test]
 fn a_program_may_stop_reading() {

@@ -260,6 +260,34 @@ fn what_is_always_tried() {
     assert!(all.len() < 1_600, "{}", all.len());
 }
 
+/// Each is decided, whatever follows, so that nobody has to end it.
+#[test]
+fn open_inputs_are_decided() {
+    for input in inputs::open() {
+        let due = generate(&input);
+        for after in [&b"\n"[..], b"7\n", b"x\n", b"\r\n", b"0", b"\0"] {
+            let longer = [&input[..], after].concat();
+            assert!(generate(&longer) == due, "{}", longer.escape_ascii());
+        }
+    }
+}
+
+#[test]
+fn open_inputs_are_of_all_kinds() {
+    let (taken, refused): (Vec<_>, Vec<_>) =
+        inputs::open().into_iter().partition(|input| seed(input).is_ok());
+    let feed = |input: &Vec<u8>| input.iter().position(|&byte| byte == b'\n');
+    let of = |count| taken.iter().filter(|input| feed(input) == Some(count)).count();
+    assert!((1..=10).all(|count| of(count) >= 2), "each number of digits");
+    assert!(taken.iter().filter(|input| input.starts_with(b"0")).count() >= 9);
+    let after = taken.iter().filter(|input| feed(input) < Some(input.len() - 1));
+    assert!(after.count() >= 5 && taken.len() >= 20);
+    let lines = [&b"0\n"[..], b"\n", b"4294967296\n", b"7x\n", b"-7\n", b"7\r\n"];
+    assert!(lines.iter().all(|line| refused.iter().any(|input| input == line)));
+    let no_line = refused.iter().filter(|input| feed(input).is_none());
+    assert!(no_line.clone().all(|input| input.len() > 10) && no_line.count() >= 5);
+}
+
 /// Nothing past the line is read, and none of it plays a part.
 #[test]
 fn reading_ends_with_the_line() {

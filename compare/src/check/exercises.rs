@@ -1,6 +1,7 @@
 //! Practice campaigns: what a generator prints for made input is what is drawn here, and what a
 //! program prints for each of its tapes has the direct sums.
 
+pub mod open;
 pub mod outcome;
 
 use std::collections::HashSet;
@@ -37,7 +38,8 @@ pub fn run(generator: &str, totals: &str, seed: u64, count: u64) -> bool {
     let Program { path, patience } = &checked.generator;
     let shut = shut::cases(path, patience, &for_shut_outputs());
     let once = once::cases(path, patience, SMALL, &generate(SMALL));
-    print_all(&[tapes, covered, shut, once])
+    let open = open::cases(path, patience, seed);
+    print_all(&[tapes, covered, shut, once, open])
 }
 
 /// How many inputs are drawn until so many different seeds are among them.
@@ -77,7 +79,7 @@ impl Checked<'_> {
     fn compare(&self, number: u64) -> (Case, Outcome) {
         let (says, input) = self.input(number);
         let pieces = handed::pieces(self.seed, number, &input);
-        let name = format!("{says}, pieces {}: {}", pieces.count(), shortened(&input, 0));
+        let name = named(&says, &pieces, &input);
         let fault = self.fault(&input, pieces).err();
         (Case { name, fault }, Outcome::of(&input))
     }
@@ -103,6 +105,10 @@ impl Checked<'_> {
         let told = answer.and_then(|answer| as_due(&report, answer));
         told.map(|_| ()).map_err(|fault| format!("  of its totals:\n{fault}"))
     }
+}
+
+fn named(says: &str, pieces: &Pieces, input: &[u8]) -> String {
+    format!("{says}, pieces {}: {}", pieces.count(), shortened(input, 0))
 }
 
 /// What was printed, which is what is due.

@@ -2,7 +2,10 @@
 //! once they are damaged.
 
 mod damaged;
+mod open;
 mod taken;
+
+pub use self::open::open;
 
 use std::collections::BTreeSet;
 
