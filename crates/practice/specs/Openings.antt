@@ -1,0 +1,24 @@
+-- How much of its input the program reads, and what it prints then.
+use Prim.Native.Nat.{ℕ, _-_, _≤_, _<_}
+use mathlib.Core.Path.{_≡_}
+use mathlib.Core.Bool.{true, false}
+use mathlib.Core.List.{List}
+use lib.ListN.{length, getD, take}
+use lib.Seq.{sets}
+use Rattle.practice_spec.specs.Seeds.{isDigit, practised}
+use Rattle.practice.specs.declared.types.Opening.{Opening}
+
+-- It stops where the input ends, where the space is full, or else after a byte that is no digit.
+pub record Stops (space : List ℕ) (opening : Opening) : Type 0 where
+  pub most : opening .used ≤ length space
+  pub last : opening .ended ≡ false → opening .used < length space → (0 < opening .used) × (isDigit (getD space (opening .used - 1) 0) ≡ false)
+
+-- What was read is how an input begins, and all of it where the input ended.
+pub record ReadOf (input space : List ℕ) (opening : Opening) : Type 0 where
+  pub begins : take (opening .used) space ≡ take (opening .used) input
+  pub all : opening .ended ≡ true → take (opening .used) space ≡ input
+
+-- Whatever input it was read of, what is printed is what that input prints, at the start of the buffer, and its length is the answer.
+abbrev pub PrintsAfter : List ℕ → Opening → List ℕ → ℕ → List ℕ → Type 0
+PrintsAfter space opening out r out′ =
+    (input : List ℕ) → ReadOf input space opening → (r ≡ length (practised input)) × (out′ ≡ sets out 0 (practised input))

@@ -1,0 +1,3 @@
+pub mod Shaping
+pub mod Putting
+pub mod Asked

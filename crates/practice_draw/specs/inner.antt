@@ -1,0 +1,2 @@
+-- For inner contracts: nothing to believe here.
+pub mod Shapes

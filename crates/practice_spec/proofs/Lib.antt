@@ -1,0 +1,7 @@
+pub mod Listed
+pub mod Cases
+pub mod Drawn
+pub mod Area
+pub mod Lines
+pub mod Accepted
+pub mod Reading

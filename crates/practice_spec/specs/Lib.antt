@@ -1,0 +1,5 @@
+pub mod Draws
+pub mod Seeds
+pub mod Exercises
+pub mod inner
+pub mod Computing
