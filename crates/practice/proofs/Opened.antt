@@ -37,7 +37,7 @@ module _ (input space : List ℕ) (o : Opening) (room : digitLimit < length spac
       let a = take (o .used - 1) space in
       sym (ap practised (parts ∙ ap (λ x. x ++ w) e ∙ append-assoc a (b ∷ []) w) ∙ no-further a b w d ∙ ap practised (sym e))
 
-  -- THE INPUT PRINTS WHAT IS READ OF IT
+  -- WHAT WAS READ PRINTS AS THE WHOLE INPUT DOES
   pub told : practised read ≡ practised input
   told =
       by (o .ended)

@@ -4,7 +4,7 @@ ghost use Rattle.practice_spec.specs.Seeds.{isDigit};
 ghost use Rattle.practice_spec.specs.inner.Judged.{seedOr};
 
 // The digits of a seed, at most.
-pub const SEED_DIGITS: usize = 10;
+const SEED_DIGITS: usize = 10;
 
 // The largest seed.
 const LAST_SEED: u64 = 4_294_967_295;

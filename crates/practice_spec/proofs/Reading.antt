@@ -18,10 +18,11 @@ use Rattle.practice_spec.specs.Draws.{practice, tapeOf}
 use Rattle.practice_spec.specs.Seeds.{isDigit, digitsOf, afterDigits, opensWithFeed, digitLimit, seedLine, value, seedOf, seedLimit, badSeed, practiceChecks, practiceRefusal, practisedOr, practised}
 use Rattle.practice_spec.specs.inner.Judged.{seedOr}
 
--- the seed, or 0, by the rest l of an input whose first k bytes are digits that spell v
+-- the seed, or 0, by the number of digits, whether a line feed follows them, and what they spell
 unfoldable pub judged : ℕ → Bool → ℕ → ℕ
 judged n feed v = pick (not ((leb 1 n && leb n digitLimit) && feed) || (eqb v 0 || ltb seedLimit v)) 0 v
 
+-- the same by the rest l of an input whose first k bytes are digits that spell v
 unfoldable pub leftOver : ℕ → ℕ → List ℕ → ℕ
 leftOver k v l = judged (k + length (digitsOf l)) (opensWithFeed (afterDigits l)) (value v (digitsOf l))
 
@@ -33,11 +34,11 @@ left-start l = rw (zero-add (length (digitsOf l))) refl
 
 no-feed : (n v : ℕ) → judged n false v ≡ 0
 unfolding judged
-no-feed n v = by (leb 1 n && leb n 10) (λ t. rw t refl) (λ t. rw t refl)
+no-feed n v = by (leb 1 n && leb n digitLimit) (λ t. rw t refl) (λ t. rw t refl)
 
-too-long : (n : ℕ) (f : Bool) (v : ℕ) → 10 < n → judged n f v ≡ 0
+too-long : (n : ℕ) (f : Bool) (v : ℕ) → digitLimit < n → judged n f v ≡ 0
 unfolding judged
-too-long n f v h = rw (le-leb 1 n (omega arith), lt-leb n 10 h) refl
+too-long n f v h = rw (le-leb 1 n (omega arith), lt-leb n digitLimit h) refl
 
 good-digits : (n v : ℕ) → 1 ≤ n → n ≤ digitLimit → v ≤ seedLimit → judged n true v ≡ v
 unfolding judged
@@ -51,7 +52,7 @@ good (suc n) v h k b = good-digits (suc n) v (omega arith) k b
 
 too-large : (n v : ℕ) → seedLimit < v → judged n true v ≡ 0
 unfolding judged
-too-large n v h = by (leb 1 n && leb n 10) (λ t. rw (t, lt-ltb seedLimit v h) (by (eqb v 0) (λ u. rw u refl) (λ u. rw u refl))) (λ t. rw t refl)
+too-large n v h = by (leb 1 n && leb n digitLimit) (λ t. rw (t, lt-ltb seedLimit v h) (by (eqb v 0) (λ u. rw u refl) (λ u. rw u refl))) (λ t. rw t refl)
 
 -- ---- the next byte
 
