@@ -13,7 +13,7 @@ use compare::random::Random;
 use compare::shape::Shape;
 use compare::{tape, totals};
 
-/// As they are in print for this generator.
+/// As they are published for this generator.
 #[test]
 fn draws_are_the_published_ones() {
     let published = [

@@ -199,10 +199,10 @@ fn start(seed: u32) -> String {
 }
 
 const PUBLISHED: &str =
-    "the draws that are in print for the seed of Marsaglia's \"Xorshift RNGs\", and then those of other seeds";
+    "the published draws of 2463534242, the seed of Marsaglia's \"Xorshift RNGs\", and then those of other seeds";
 
-/// From print, and not worked out here.
-const IN_PRINT: (u32, [u64; 10]) = (
+/// As published, and not worked out here.
+const MARSAGLIAS: (u32, [u64; 10]) = (
     2_463_534_242,
     [
         723_471_715,
@@ -222,8 +222,8 @@ fn published() -> Vec<String> {
     let row =
         |seed: u32, draws: &[u64]| format!("record {{ seed = {seed}; draws = {} }}", list(draws));
     let worked_out = |seed| row(seed, &draws(seed).take(8).collect::<Vec<u64>>());
-    let (seed, in_print) = IN_PRINT;
-    let mut rows = vec![row(seed, &in_print)];
+    let (seed, published) = MARSAGLIAS;
+    let mut rows = vec![row(seed, &published)];
     rows.extend([1, 1 << 31, u32::MAX].map(worked_out));
     rows
 }

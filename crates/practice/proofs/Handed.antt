@@ -14,14 +14,14 @@ use Rattle.cube_spec.proofs.Stores.{stored-first}
 use Rattle.practice_spec.specs.Seeds.{practised}
 use Rattle.practice_spec.specs.Exercises.{Asks, Prints}
 use Rattle.practice_spec.specs.inner.Judged.{longestTape}
-use Rattle.practice_spec.proofs.Accepted.{prints-all, same-seed, practised-short}
+use Rattle.practice_spec.proofs.Printing.{prints-all, same-seed, practised-short}
 use Rattle.practice.specs.Openings.{ReadOf}
 use Rattle.practice.proofs.writing.print.{signature, ended}
 use Rattle.practice.proofs.writing.print.Reads as reads
 
 module _ (κs : Lfts 2) (a : ArgsD signature κs) (r : ResD signature κs) (s : AtExit ended κs) (h : reads.Learnt κs a r s)
     (room : longestTape ≤ length (now (a .1 .1 .0))) (input : List ℕ) (e : ReadOf input (now (a .0)) (a .1 .0)) where
-  -- What is at the start of the buffer, and `write` is lent, is what the whole input prints, byte for byte,
+  -- What the buffer then has at its start is what the whole input prints, byte for byte (`write` asks for just these bytes),
   pub handed : take r (now (s .1 .1 .0)) ≡ practised input
   handed =
       let m = h input e in

@@ -1,19 +1,19 @@
--- What was read tells what the whole input prints.
+-- What was read tells what the whole input prints, and where reading stops.
 use Prim.Native.Nat.{ℕ, suc, _+_, _-_, _≤_, _<_}
-use mathlib.Core.Path.{_≡_, sym, _∙_, ap}
+use mathlib.Core.Path.{_≡_, sym, _∙_, refl, ap}
 use mathlib.Core.Bool.{true, false}
 use mathlib.Core.List.{List, [], _∷_, _++_, append-assoc}
 use native.Mathlib.Omega.{arith}
 use borrow.Author.Tests.{ltb-true, ltb-false}
 use lib.Dec.{ltb}
 use lib.ListN.{length, getD, take, drop, set, length-set, take-append-drop}
-use lib.Seq.{take-suc, length-take-le, getD-set-same}
+use lib.Seq.{take-suc, length-take-le, getD-set-same, getD-set-other}
 use Rattle.cube_spec.proofs.Naturals.{clash}
 use Rattle.cube_spec.proofs.Sums.{by}
 use Rattle.practice_spec.specs.Seeds.{isDigit, digitLimit, practised}
 use Rattle.practice_spec.proofs.Reading.{eleven, no-further}
 use Rattle.practice.specs.declared.types.Opening.{Opening}
-use Rattle.practice.specs.Openings.{Stops, ReadOf}
+use Rattle.practice.specs.Openings.{Stops, Keeps, ReadOf}
 
 module _ (input space : List ℕ) (o : Opening) (room : digitLimit < length space) (s : Stops space o) (r : ReadOf input space o) where
   abbrev read : List ℕ
@@ -49,17 +49,55 @@ module _ (input space : List ℕ) (o : Opening) (room : digitLimit < length spac
 
 -- ---- where reading stops
 
-pub stops-ended : (space : List ℕ) (used : ℕ) → used ≤ length space → Stops space (record { used = used; ended = true })
-stops-ended space used h = record { most = h; last = λ e k. clash e }
+-- so many bytes are read, all of them digits
+pub record Read (space₀ space : List ℕ) (used : ℕ) : Type 0 where
+  pub fits : used ≤ length space
+  pub digits : (i : ℕ) → i < used → isDigit (getD space i 0) ≡ true
+  pub keeps : Keeps space₀ space used
 
-pub stops-last : (space : List ℕ) (used b : ℕ) → used < length space → isDigit b ≡ false → Stops (set space used b) (record { used = used + 1; ended = false })
-stops-last space used b h d =
-    let n = length-set space used b in
-    let q : used + 1 - 1 ≡ used = omega arith in
-    record {
-      most = omega arith;
-      last = λ e k. (omega arith, ap (λ i. isDigit (getD (set space used b) i 0)) q ∙ ap isDigit (getD-set-same space used b 0 h) ∙ d);
-    }
+pub read-none : (space : List ℕ) → Read space space 0
+read-none space = record { fits = omega arith; digits = λ i h. absurd (omega arith); keeps = record { same = refl; rest = λ i h. refl } }
 
-pub stops-full : (space : List ℕ) (used : ℕ) → used ≤ length space → length space ≤ used → Stops space (record { used = used; ended = false })
-stops-full space used h k = record { most = h; last = λ e l. absurd (omega arith) }
+module _ {space₀ space : List ℕ} {used : ℕ} (w : Read space₀ space used) where
+  pub stops-ended : Stops space (record { used = used; ended = true })
+  stops-ended = record { most = w .fits; before = λ i h. w .digits i (omega arith); last = λ e k. clash e }
+
+  pub stops-full : length space ≤ used → Stops space (record { used = used; ended = false })
+  stops-full k = record { most = w .fits; before = λ i h. w .digits i (omega arith); last = λ e l. absurd (omega arith) }
+
+  -- one byte more
+  module _ (b : ℕ) (h : used < length space) where
+    there : getD (set space used b) used 0 ≡ b
+    there = getD-set-same space used b 0 h
+
+    others : (i : ℕ) → i < used → isDigit (getD (set space used b) i 0) ≡ true
+    others i l = ap isDigit (getD-set-other space used i b 0 (λ z. omega arith)) ∙ w .digits i l
+
+    pub keeps-more : Keeps space₀ (set space used b) (used + 1)
+    keeps-more =
+        record {
+          same = length-set space used b ∙ w .keeps .same;
+          rest = λ i l. getD-set-other space used i b 0 (λ z. omega arith) ∙ w .keeps .rest i (omega arith);
+        }
+
+    more-fits : used + 1 ≤ length (set space used b)
+    more-fits = let n = length-set space used b in omega arith
+
+    pub stops-last : isDigit b ≡ false → Stops (set space used b) (record { used = used + 1; ended = false })
+    stops-last d =
+        let q : used + 1 - 1 ≡ used = omega arith in
+        record {
+          most = more-fits;
+          before = λ i l. others i (omega arith);
+          last = λ e k. (omega arith, ap (λ i. isDigit (getD (set space used b) i 0)) q ∙ ap isDigit there ∙ d);
+        }
+
+    pub reads-on : isDigit b ≡ true → Read space₀ (set space used b) (used + 1)
+    reads-on d =
+        record {
+          fits = more-fits;
+          digits = λ i l. by (ltb i used)
+              (λ t. others i (ltb-true i used t))
+              (λ t. let e : i ≡ used = (let g = ltb-false i used t in omega arith) in ap (λ j. isDigit (getD (set space used b) j 0)) e ∙ ap isDigit there ∙ d);
+          keeps = keeps-more;
+        }

@@ -1,13 +1,11 @@
 // The seed line, read.
-ghost use mathlib.Core.Path.{_≡_};
-ghost use lib.ListN.{length};
-ghost use Rattle.practice.specs.Openings.{Stops};
+ghost use Rattle.practice.specs.Openings.{Stops, Keeps};
 use crate::types::Opening;
 use practice_draw::seeds::is_digit;
 
 // Reads byte by byte, up to the first that is no digit: what follows the line feed is left unread, and nobody has to end the input.
 pub fn read_line(space: &mut [u8]) -> Opening
-    ensures { λ r. ⌜ (length (now (space .exit)) ≡ length (now (space .entry))) × Stops (now (space .exit)) r ⌝ }
+    ensures { λ r. ⌜ Stops (now (space .exit)) r × Keeps (now (space .entry)) (now (space .exit)) (r .used) ⌝ }
 {
     let mut used: usize = 0;
     while used < space.len() {

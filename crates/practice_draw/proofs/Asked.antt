@@ -8,6 +8,7 @@ use lib.Dec.{ltb}
 use lib.ListN.{length}
 use Rattle.cube_spec.proofs.Sums.{by}
 use Rattle.tape_spec.specs.Writing.{Every}
+use Rattle.tape_spec.proofs.Writing.{every-append}
 use Rattle.report_spec.specs.Text.{decimal}
 use Rattle.report_field.proofs.Spelling.{decimal-digit, decimal-more, decimal-short}
 use Rattle.practice_spec.specs.Seeds.{value, seedLimit}
@@ -18,10 +19,6 @@ value-last : (n : ℕ) (l : List ℕ) (b : ℕ) → value n (l ++ b ∷ []) ≡ 
 unfolding value
 value-last n [] b = refl
 value-last n (a ∷ l) b = value-last (10 * n + (a - 48)) l b
-
-every-last : (P : ℕ → Type 0) (l : List ℕ) (b : ℕ) → Every P l → P b → Every P (l ++ b ∷ [])
-every-last P [] b h k = (k, tt)
-every-last P (a ∷ l) b h k = (h .0, every-last P l b (h .1) k)
 
 one-value : (n : ℕ) → value 0 ((48 + n) ∷ []) ≡ n
 unfolding value
@@ -37,7 +34,7 @@ spells (suc f) n h =
     let k = ltb-false n 10 t in
     let i = spells f (n / 10) (omega arith) in
     rw (decimal-more n k) (
-      every-last Digit (decimal (n / 10)) (48 + n % 10) (i .0) (omega arith, omega arith),
+      every-append Digit (decimal (n / 10)) ((48 + n % 10) ∷ []) (i .0) ((omega arith, omega arith), tt),
       longer (decimal (n / 10)) (48 + n % 10),
       value-last 0 (decimal (n / 10)) (48 + n % 10) ∙ (let v = i .2 in omega arith),
     ))

@@ -25,7 +25,7 @@ pub fn put_axis(out: &mut [u8], at: usize, d: u32)
     out[at + 2] = (d / 256 % 256) as u8;
 }
 
-// 56 and the point of a draw, modulo 2^32.
+// 56 and the point that a draw makes, modulo 2^32, as its four bytes have it.
 pub fn put_point(out: &mut [u8], at: usize, draw: u32)
     requires { ⌜ at + 5 ≤ length (now out) ⌝ }
     ensures { λ _. ⌜ now (out .exit) ≡ sets (now (out .entry)) at (pointCommand (pointBy draw)) ⌝ }

@@ -3,8 +3,10 @@ ghost use mathlib.Core.Path.{_≡_};
 ghost use Rattle.practice_spec.specs.Seeds.{isDigit};
 ghost use Rattle.practice_spec.specs.inner.Judged.{seedOr};
 
-// The digits of a seed, at most.
+// The digits of a seed, at most; and with the line feed.
 const SEED_DIGITS: usize = 10;
+
+pub const SEED_LINE: usize = 11;
 
 // The largest seed.
 const LAST_SEED: u64 = 4_294_967_295;

@@ -1,7 +1,7 @@
 -- The campaign of every seed: its draws by number, its tape, and that the program `totals` takes it.
 use Prim.Native.Nat.{ℕ, zero, suc, _+_, _%_, _^_, _≤_, _<_, min}
 use mathlib.Core.Path.{_≡_, sym, _∙_, refl, ap}
-use mathlib.Core.Bool.{true, false, not}
+use mathlib.Core.Bool.{false, not}
 use mathlib.Core.Option.{some}
 use mathlib.Core.List.{List, [], _∷_, _++_}
 use native.Mathlib.Omega.{arith}
@@ -18,7 +18,6 @@ use Rattle.cube_spec.specs.Ways.{room}
 use Rattle.cube_spec.specs.Checks.{check, first}
 use Rattle.cube_spec.proofs.Counting.{points-none, points-first}
 use Rattle.cube_spec.proofs.Dues.{first-passed}
-use Rattle.cube_spec.proofs.Naturals.{clash}
 use Rattle.cube_spec.proofs.Sums.{by}
 use Rattle.plan_spec.specs.Accepted.{LengthsAccepted}
 use Rattle.plan_spec.specs.Rule.{planOf, powerUsed}
@@ -32,17 +31,14 @@ use Rattle.tape_spec.specs.Tapes.{campaign}
 use Rattle.tape_spec.specs.Reading.{scanChecks}
 use Rattle.tape_spec.specs.Writing.{bytes, axisCommand, boardsCommand, pointCommand, endCommand, each, headed, written, Every}
 use Rattle.tape_spec.proofs.Refusing.{after-scan}
-use Rattle.tape_spec.proofs.Writing.{holds, passes, written-length}
-use Rattle.report_spec.specs.Text.{text}
+use Rattle.tape_spec.proofs.Writing.{every-at, holds, passes, written-length}
 use Rattle.report_spec.specs.Printed.{planFor, tooLarge, programChecks, programRefusal, report, reportOr, printedLines, joined, printed}
 use Rattle.practice_spec.specs.Draws.{round, after, axesOf, lengthBy, lengthsOf, powerDraw, powerOf, pointBy, pointsOf, practice, tapeOf}
-use Rattle.practice_spec.specs.Seeds.{seedOf, seedLimit, badSeed, practiceChecks, practiceRefusal, practisedOr, practised}
-use Rattle.practice_spec.specs.Exercises.{Asks, Exercise, Exercised, Prints, tape, refusal}
-use Rattle.practice_spec.specs.Computing.{computing}
+use Rattle.practice_spec.specs.Seeds.{seedLimit}
+use Rattle.practice_spec.specs.Exercises.{Exercise, Exercised}
 use Rattle.practice_spec.specs.inner.Judged.{longestTape}
-use Rattle.practice_spec.proofs.Drawn.{drawn-length, drawn-every, every-at, drawn-at, after-first, after-more, after-some, after-fits}
+use Rattle.practice_spec.proofs.Drawn.{drawn-length, drawn-every, drawn-at, after-first, after-more, after-some, after-fits}
 use Rattle.practice_spec.proofs.Area.{area-small}
-use Rattle.practice_spec.proofs.Lines.{asks-taken, taken-asks}
 
 -- ---- lengths and points
 
@@ -234,39 +230,3 @@ module _ (seed : ℕ) where
       bytes-are : tapeOf (practice seed) ≡ each (λ d. 0x41 ∷ bytes 2 d) (practice seed .lengths)
           ++ (0x42 ∷ practice seed .p ∷ (each (λ v. 0x56 ∷ bytes 4 (ofZ w32 v)) (practice seed .points) ++ 0x45 ∷ []))
       bytes-are = unfold tapeOf written headed axisCommand boardsCommand pointCommand endCommand in refl
-
-taken-prints : (input : List ℕ) → badSeed input ≡ false → practised input ≡ tapeOf (practice (seedOf input))
-unfolding practised practisedOr practiceRefusal practiceChecks first
-taken-prints input e = rw e refl
-
-refused-prints : (input : List ℕ) → badSeed input ≡ true → practised input ≡ text "refused 22\n"
-unfolding practised practisedOr practiceRefusal practiceChecks first computing
-refused-prints input e = rw e refl
-
--- WHAT IS PRINTED FOR EVERY INPUT: the tape of the seed that it asks for, or it asks for none and the refusal line is printed
-pub prints-all : (input : List ℕ) → Prints input (practised input)
-prints-all input =
-    by (badSeed input)
-    (λ t. refusal (λ seed a. clash (sym t ∙ asks-taken input seed a .0)) (refused-prints input t))
-    (λ t.
-    let a = taken-asks input t in
-    let s = seedOf input in
-    tape s a (practice s) (rw (taken-prints input t) (exercised s (a .least) (a .most))))
-
--- the same seed prints the same
-pub same-seed : (input input′ : List ℕ) (seed : ℕ) → Asks input seed → Asks input′ seed → practised input ≡ practised input′
-same-seed input input′ seed a b =
-    let x = asks-taken input seed a in
-    let y = asks-taken input′ seed b in
-    taken-prints input (x .0) ∙ ap (λ s. tapeOf (practice s)) (x .1 ∙ sym (y .1)) ∙ sym (taken-prints input′ (y .0))
-
-refusal-length : length (text "refused 22\n") ≡ 11
-unfolding text
-refusal-length = refl
-
--- what is printed is no longer than the longest tape
-pub practised-short : (input : List ℕ) → length (practised input) ≤ longestTape
-practised-short input =
-    by (badSeed input)
-    (λ t. let e = ap length (refused-prints input t) in let n = refusal-length in omega arith)
-    (λ t. let e = ap length (taken-prints input t) in let n = tape-short (seedOf input) in omega arith)

@@ -94,7 +94,9 @@ unfolding everyFalling Falls
 falling-each zero b f e [] h k = e
 falling-each zero b f e (d ∷ l) h k = absurd (omega arith)
 falling-each (suc n) b f e [] h k = absurd (omega arith)
-falling-each (suc n) b f e (d ∷ l) h k = falling-each n d (λ r. f (d ∷ r)) (all-true (λ d. everyFalling n d (λ l. f (d ∷ l))) (suc b) e d (let z = k .0 in omega arith)) l (omega arith) (k .1)
+falling-each (suc n) b f e (d ∷ l) h k =
+    let t = all-true (λ d. everyFalling n d (λ l. f (d ∷ l))) (suc b) e d (let z = k .0 in omega arith) in
+    falling-each n d (λ r. f (d ∷ r)) t l (omega arith) (k .1)
 
 table-small : all 5 (λ n. everyFalling n 9 small) ≡ true
 unfolding computing entriesBy cellsBy areaOf small everyFalling

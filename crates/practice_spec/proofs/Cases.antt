@@ -35,7 +35,7 @@ begin : begun starts ≡ starts
 unfolding computing begun starts
 begin = refl
 
--- draws, those that are in print first
+-- draws, the published ones first
 unfoldable drawn-all : List Draws → List Draws
 drawn-all [] = []
 drawn-all (r ∷ l) = record { seed = r .seed; draws = drawn (λ x. x) (length (r .draws)) (r .seed) } ∷ drawn-all l

@@ -1,7 +1,7 @@
 -- Laws of the draws: a state that is not 0 stays so, and what holds of every value made of a draw holds of all that are drawn.
 use Prim.Native.Nat.{ℕ, zero, suc, _+_, _*_, _-_, _/_, _%_, _^_, _<_}
 use mathlib.Core.Path.{_≡_, _∙_, refl, ap}
-use mathlib.Core.List.{List, [], _∷_, _++_}
+use mathlib.Core.List.{[], _∷_, _++_}
 use native.Mathlib.Omega.{arith}
 use lib.Bits.{bitXor, xor-lt, xor-add-and, and-le-l, and-le-r}
 use lib.ListN.{length, getD}
@@ -74,12 +74,6 @@ pub drawn-every : {A : Type 0} (P : A → Type 0) (f : ℕ → A) → ((x : ℕ)
 unfolding drawn
 drawn-every P f h zero s = tt
 drawn-every P f h (suc n) s = (h (round s), drawn-every P f h n (round s))
-
--- what holds of each element holds of the one at d
-pub every-at : {A : Type 0} (P : A → Type 0) (z : A) (l : List A) → Every P l → (d : ℕ) → d < length l → P (getD l d z)
-every-at P z [] h d k = absurd (omega arith)
-every-at P z (x ∷ l) h zero k = h .0
-every-at P z (x ∷ l) h (suc d) k = every-at P z l (h .1) d (omega arith)
 
 -- one round first, or last
 pub after-first : (n s : ℕ) → after n (round s) ≡ after (suc n) s

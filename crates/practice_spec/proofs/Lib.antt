@@ -3,5 +3,6 @@ pub mod Cases
 pub mod Drawn
 pub mod Area
 pub mod Lines
-pub mod Accepted
 pub mod Reading
+pub mod Accepted
+pub mod Printing

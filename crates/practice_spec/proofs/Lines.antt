@@ -1,4 +1,5 @@
--- Which inputs ask for a seed: those that open with one to ten decimal digits and a line feed, whatever follows, which spell 1 to 4,294,967,295, and no others.
+-- Which inputs ask for a seed: those that open with one to ten decimal digits and a line feed, whatever follows, which spell 1 to
+-- 4,294,967,295, and no others; and what is printed for either.
 use Prim.Native.Nat.{ℕ, suc, _+_, _-_, _*_, _^_, _≤_}
 use mathlib.Core.Path.{_≡_, sym, _∙_, refl, ap}
 use mathlib.Core.Bool.{true, false, _&&_, _||_, not}
@@ -7,11 +8,14 @@ use native.Mathlib.Omega.{arith}
 use borrow.Author.Tests.{le-leb, leb-true, le-ltb, ltb-false, eqb-true, eqb-false, ne-eqb}
 use lib.Dec.{eqb, ltb, leb}
 use lib.ListN.{length, drop}
+use Rattle.cube_spec.specs.Checks.{first}
 use Rattle.cube_spec.proofs.Naturals.{both, not-false, clash}
 use Rattle.cube_spec.proofs.Sums.{by}
 use Rattle.plan_spec.proofs.Accepting.{or-none}
 use Rattle.tape_spec.specs.Writing.{Every}
-use Rattle.practice_spec.specs.Seeds.{isDigit, digitsOf, afterDigits, opensWithFeed, digitLimit, seedLine, value, seedOf, seedLimit, badSeed}
+use Rattle.report_spec.specs.Printed.{refusedLine}
+use Rattle.practice_spec.specs.Draws.{practice, tapeOf}
+use Rattle.practice_spec.specs.Seeds.{isDigit, digitsOf, afterDigits, opensWithFeed, digitLimit, seedLine, value, seedOf, seedLimit, badSeed, practiceChecks, practiceRefusal, practisedOr, practised}
 use Rattle.practice_spec.specs.Exercises.{Digit, spelt, Asks}
 
 digit-true : (b : ℕ) → Digit b → isDigit b ≡ true
@@ -93,3 +97,13 @@ taken-asks input e =
       least = omega (arith, z);
       most = ltb-false seedLimit (seedOf input) (b .1);
     }
+
+-- ---- what is printed for either
+
+pub prints-taken : (input : List ℕ) → badSeed input ≡ false → practised input ≡ tapeOf (practice (seedOf input))
+unfolding practised practisedOr practiceRefusal practiceChecks first
+prints-taken input e = rw e refl
+
+pub prints-bad : (input : List ℕ) → badSeed input ≡ true → practised input ≡ refusedLine 22
+unfolding practised practisedOr practiceRefusal practiceChecks first
+prints-bad input e = rw e refl

@@ -166,7 +166,7 @@ starts =
     ∷ record { seed = 2498688077; lengths = 9 ∷ 1 ∷ 3 ∷ []; p = 3; count = 27; first = negsuc 855 ∷ negsuc 52 ∷ negsuc 837 ∷ [] }
     ∷ []
 
--- the draws that are in print for the seed of Marsaglia's "Xorshift RNGs", and then those of other seeds
+-- the published draws of 2463534242, the seed of Marsaglia's "Xorshift RNGs", and then those of other seeds
 unfoldable pub published : List Draws
 published =
     record { seed = 2463534242; draws = 723471715 ∷ 2497366906 ∷ 2064144800 ∷ 2008045182 ∷ 3532304609 ∷ 374114282 ∷ 1350636274 ∷ 691148861 ∷ 746858951 ∷ 2653896249 ∷ [] }

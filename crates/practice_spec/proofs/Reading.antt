@@ -10,13 +10,12 @@ use lib.Dec.{eqb, ltb, leb}
 use lib.ListN.{length, getD, drop, drop-of-length-le}
 use lib.Seq.{drop-cons}
 use Rattle.cube_spec.specs.Boxes.{pick}
-use Rattle.cube_spec.specs.Checks.{first}
-use Rattle.cube_spec.proofs.Naturals.{clash}
 use Rattle.cube_spec.proofs.Sums.{by}
 use Rattle.report_spec.specs.Printed.{refusedLine}
 use Rattle.practice_spec.specs.Draws.{practice, tapeOf}
-use Rattle.practice_spec.specs.Seeds.{isDigit, digitsOf, afterDigits, opensWithFeed, digitLimit, seedLine, value, seedOf, seedLimit, badSeed, practiceChecks, practiceRefusal, practisedOr, practised}
+use Rattle.practice_spec.specs.Seeds.{isDigit, digitsOf, afterDigits, opensWithFeed, digitLimit, seedLine, value, seedOf, seedLimit, badSeed, practised}
 use Rattle.practice_spec.specs.inner.Judged.{seedOr}
+use Rattle.practice_spec.proofs.Lines.{taken-asks, prints-taken, prints-bad}
 
 -- the seed, or 0, by the number of digits, whether a line feed follows them, and what they spell
 unfoldable pub judged : ℕ → Bool → ℕ → ℕ
@@ -65,12 +64,12 @@ unfolding leftOver digitsOf afterDigits value
 left-none k v = no-feed (k + 0) v
 
 -- a byte that is no digit
-stops : (k v b : ℕ) (l : List ℕ) → isDigit b ≡ false → leftOver k v (b ∷ l) ≡ judged (k + 0) (eqb b 10) v
+left-stops : (k v b : ℕ) (l : List ℕ) → isDigit b ≡ false → leftOver k v (b ∷ l) ≡ judged (k + 0) (eqb b 10) v
 unfolding leftOver digitsOf afterDigits value
-stops k v b l t = rw t refl
+left-stops k v b l t = rw t refl
 
 pub left-other : (k v b : ℕ) (l : List ℕ) → isDigit b ≡ false → (b ≡ 10 → ⊥) → leftOver k v (b ∷ l) ≡ 0
-left-other k v b l t h = stops k v b l t ∙ rw (ne-eqb b 10 h) (no-feed (k + 0) v)
+left-other k v b l t h = left-stops k v b l t ∙ rw (ne-eqb b 10 h) (no-feed (k + 0) v)
 
 left-digit : (k v b : ℕ) (l : List ℕ) → isDigit b ≡ true → leftOver k v (b ∷ l) ≡ leftOver (k + 1) (10 * v + (b - 48)) l
 unfolding leftOver digitsOf afterDigits value
@@ -95,7 +94,7 @@ module _ (input : List ℕ) (i v : ℕ) (h : i < length input) (e : seedOr input
   opened = e ∙ ap (leftOver i v) (drop-cons input i 0 h)
 
   fed : b ≡ 10 → seedOr input ≡ judged i true v
-  fed z = opened ∙ stops i v b rest (below-digit b (omega arith)) ∙ rw (eq-eqb b 10 z, add-zero i) refl
+  fed z = opened ∙ left-stops i v b rest (below-digit b (omega arith)) ∙ rw (eq-eqb b 10 z, add-zero i) refl
 
   pub reads-large : b ≡ 10 → seedLimit < v → 0 ≡ seedOr input
   reads-large z k = sym (fed z ∙ too-large i v k)
@@ -117,7 +116,7 @@ reads-end input i v e h = sym (e ∙ ap (leftOver i v) (drop-of-length-le input 
 
 -- ---- sizes
 
--- i digits, at most nine, and one more
+-- what at most nine digits spell, and one digit more
 pub small-value : (i v : ℕ) → v < 10 ^ i → i ≤ 9 → v < 1000000000
 small-value i v h k = let p = pow-le-pow-right {n = 10} (omega arith) {i = i} {j = 9} k in omega arith
 
@@ -126,24 +125,17 @@ next-value i v x h k = let e : 10 ^ (i + 1) ≡ 10 * 10 ^ i = (let q : i + 1 ≡
 
 -- ---- what is printed
 
-good-some : (input : List ℕ) → badSeed input ≡ false → seedOf input ≡ 0 → ⊥
-unfolding badSeed
-good-some input t z =
-    by (not (seedLine input))
-    (λ u. clash (rw u at t))
-    (λ u. clash (let v : (eqb (seedOf input) 0 || ltb seedLimit (seedOf input)) ≡ false = (rw u at t) in rw (eq-eqb (seedOf input) 0 z) at v))
-
 pub prints-refused : (input : List ℕ) (seed : ℕ) → seed ≡ seedOr input → seed ≡ 0 → practised input ≡ refusedLine 22
-unfolding practised practiceRefusal practiceChecks first seedOr practisedOr
+unfolding seedOr
 prints-refused input seed e z = by (badSeed input)
-    (λ t. rw t refl)
-    (λ t. absurd (good-some input t (let q : seed ≡ seedOf input = e ∙ rw t refl in sym q ∙ z)))
+    (λ t. prints-bad input t)
+    (λ t. absurd (let q : seed ≡ seedOf input = e ∙ rw t refl in let l = taken-asks input t .least in omega arith))
 
 pub prints-tape : (input : List ℕ) (seed : ℕ) → seed ≡ seedOr input → (seed ≡ 0 → ⊥) → practised input ≡ tapeOf (practice seed)
-unfolding practised practiceRefusal practiceChecks first seedOr practisedOr
+unfolding seedOr
 prints-tape input seed e z = by (badSeed input)
     (λ t. absurd (z (e ∙ rw t refl)))
-    (λ t. rw (e, t) refl)
+    (λ t. let q : seed ≡ seedOf input = e ∙ rw t refl in prints-taken input t ∙ ap (λ s. tapeOf (practice s)) (sym q))
 
 -- ---- how much of an input tells
 
@@ -162,7 +154,7 @@ left-long-enough k v [] r h = left-passed k v r (omega arith) ∙ sym (left-none
 left-long-enough k v (b ∷ a) r h =
     by (isDigit b)
     (λ t. left-digit k v b (a ++ r) t ∙ left-long-enough (k + 1) (10 * v + (b - 48)) a r (omega arith) ∙ sym (left-digit k v b a t))
-    (λ t. stops k v b (a ++ r) t ∙ sym (stops k v b a t))
+    (λ t. left-stops k v b (a ++ r) t ∙ sym (left-stops k v b a t))
 
 -- ELEVEN BYTES TELL: ten digits and a line feed
 pub eleven : (a r : List ℕ) → digitLimit < length a → practised (a ++ r) ≡ practised a
@@ -170,11 +162,11 @@ eleven a r h = alike (a ++ r) a (left-start (a ++ r) ∙ left-long-enough 0 0 a 
 
 -- and so do fewer, where one of them is no digit
 left-ended : (k v : ℕ) (a : List ℕ) (b : ℕ) (r : List ℕ) → isDigit b ≡ false → leftOver k v (a ++ b ∷ r) ≡ leftOver k v (a ++ b ∷ [])
-left-ended k v [] b r e = stops k v b r e ∙ sym (stops k v b [] e)
+left-ended k v [] b r e = left-stops k v b r e ∙ sym (left-stops k v b [] e)
 left-ended k v (c ∷ a) b r e =
     by (isDigit c)
     (λ t. left-digit k v c (a ++ b ∷ r) t ∙ left-ended (k + 1) (10 * v + (c - 48)) a b r e ∙ sym (left-digit k v c (a ++ b ∷ []) t))
-    (λ t. stops k v c (a ++ b ∷ r) t ∙ sym (stops k v c (a ++ b ∷ []) t))
+    (λ t. left-stops k v c (a ++ b ∷ r) t ∙ sym (left-stops k v c (a ++ b ∷ []) t))
 
 -- NO BYTE AFTER ONE THAT IS NO DIGIT MATTERS
 pub no-further : (a : List ℕ) (b : ℕ) (r : List ℕ) → isDigit b ≡ false → practised (a ++ b ∷ r) ≡ practised (a ++ b ∷ [])

@@ -1,4 +1,5 @@
--- What is said of the generator: of every input, which seed it asks for, and what is printed; of every seed its campaign, draw by draw, and its tape.
+-- What is said of the generator: of every input, which seed it asks for, and what is printed; of every seed its campaign, draw by draw, and its
+-- tape. A round is that of `Draws`, where it must be read.
 use Prim.Native.Nat.{ℕ, _+_, _-_, _*_, _%_, _^_, _≤_, _<_, min}
 use mathlib.Core.Path.{_≡_}
 use mathlib.Core.Option.{some}
@@ -74,7 +75,8 @@ pub record Exercised (seed : ℕ) (c : Campaign) (tape : List ℕ) : Type 0 wher
   pub taken : programRefusal tape ≡ 0
   -- and all of its 2^p boards are used
   pub used : powerUsed (c .lengths) (c .p) ≡ c .p
-  -- "its totals satisfy the direct sums as any campaign's do": its report, in which each total is the sum of all points that share its positions
+  -- "its totals satisfy the direct sums as any campaign's do": its report, whose groups have `totals` of `cube_spec`, each total the sum of all
+  -- points that share its positions
   pub sums : printed tape ≡ joined (report (planFor c) (read (c .points)) (steps (gridOf (planFor c))))
 
 -- ---- what is printed for an input: the tape of the seed that it asks for; or it asks for none, and "the generator then prints only the refusal line"

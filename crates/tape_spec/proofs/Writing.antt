@@ -6,7 +6,7 @@ use mathlib.Core.List.{List, [], _∷_, _++_, map, append-assoc}
 use native.Mathlib.Omega.{arith}
 use borrow.Author.Tests.{le-ltb}
 use lib.Dec.{ltb}
-use lib.ListN.{length, drop, replicate, length-append, length-map}
+use lib.ListN.{length, getD, drop, replicate, length-append, length-map}
 use lib.IntN.{ℤ}
 use mir.Syntax.{w32}
 use mir.Val.{SFits, ofZ}
@@ -23,6 +23,17 @@ use Rattle.tape_spec.specs.Decoding.{entriesFrom}
 use Rattle.tape_spec.specs.Writing.{bytes, axisCommand, boardsCommand, pointCommand, repeatCommand, endCommand, each, headed, written, Logged, centimetres, metres, kilometres, loggedCommand, loggedReading, logged, Every}
 use Rattle.tape_spec.proofs.Commands.{commands-none, commands-next}
 use Rattle.tape_spec.proofs.Refusing.{after-scan}
+
+-- ---- what holds of each element
+
+pub every-append : {A : Type 0} (P : A → Type 0) (a b : List A) → Every P a → Every P b → Every P (a ++ b)
+every-append P [] b h k = k
+every-append P (x ∷ a) b h k = (h .0, every-append P a b (h .1) k)
+
+pub every-at : {A : Type 0} (P : A → Type 0) (z : A) (l : List A) → Every P l → (d : ℕ) → d < length l → P (getD l d z)
+every-at P z [] h d k = absurd (omega arith)
+every-at P z (x ∷ l) h zero k = h .0
+every-at P z (x ∷ l) h (suc d) k = every-at P z l (h .1) d (omega arith)
 
 -- ---- operands: the bytes written are the operand read, and what follows them follows
 
@@ -381,10 +392,6 @@ repeats-on-tape ds p xs n v l h k z b f =
 abbrev pub Byte : ℕ → Type 0
 Byte b = b < 256
 
-every-append : (a b : List ℕ) → Every Byte a → Every Byte b → Every Byte (a ++ b)
-every-append [] b h k = k
-every-append (x ∷ a) b h k = (h .0, every-append a b (h .1) k)
-
 every-byte : (n x : ℕ) → Every Byte (bytes n x)
 unfolding bytes
 every-byte zero x = tt
@@ -393,7 +400,7 @@ every-byte (suc n) x = (omega arith, every-byte n (x / 256))
 every-each : {A : Type 0} (f : A → List ℕ) → ((a : A) → Every Byte (f a)) → (l : List A) → Every Byte (each f l)
 unfolding each
 every-each f h [] = tt
-every-each f h (a ∷ l) = every-append (f a) (each f l) (h a) (every-each f h l)
+every-each f h (a ∷ l) = every-append Byte (f a) (each f l) (h a) (every-each f h l)
 
 logged-bytes : (x : Logged) → Every Byte (loggedCommand x)
 unfolding loggedCommand pointCommand
@@ -404,5 +411,5 @@ logged-bytes (kilometres b) = (omega arith, every-byte 4 b)
 pub are-bytes : (ds : List ℕ) (p : ℕ) (xs : List Logged) → p < 256 → Every Byte (logged ds p xs)
 unfolding logged headed axisCommand boardsCommand endCommand
 are-bytes ds p xs h =
-    every-append (each axisCommand ds) _ (every-each axisCommand (λ d. (omega arith, every-byte 2 d)) ds)
-    (omega arith, (h, every-append (each loggedCommand xs) _ (every-each loggedCommand logged-bytes xs) (omega arith, tt)))
+    every-append Byte (each axisCommand ds) _ (every-each axisCommand (λ d. (omega arith, every-byte 2 d)) ds)
+    (omega arith, (h, every-append Byte (each loggedCommand xs) _ (every-each loggedCommand logged-bytes xs) (omega arith, tt)))

@@ -1,4 +1,4 @@
--- The seed as the code hands it on, and how much of the input tells it.
+-- The seed as the code hands it on, and how long a tape can be.
 use Prim.Native.Nat.{ℕ}
 use mathlib.Core.List.{List}
 use Rattle.cube_spec.specs.Boxes.{pick}

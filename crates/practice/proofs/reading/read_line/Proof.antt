@@ -1,37 +1,51 @@
--- `read_line` puts one byte after the other. The invariant: the bytes fit, and the space keeps its length. The measure is the room that is left.
-use Prim.Native.Nat.{_-_, _≤_}
-use mathlib.Core.Path.{_≡_, sym, _∙_}
+-- `read_line` puts one byte after the other. The invariant: those read are digits, and the other cells are kept. The measure is the room left.
+use Prim.Native.Nat.{_-_}
+use mathlib.Core.Path.{sym, _∙_}
 use native.Mathlib.Omega.{arith}
 use borrow.Author.Needs.{needs}
 use lib.ListN.{length, length-set}
-use Rattle.cube_spec.proofs.Naturals.{not-true}
-use Rattle.practice.proofs.Opened.{stops-ended, stops-last, stops-full}
+use Rattle.cube_spec.proofs.Naturals.{not-true, not-false}
+use Rattle.practice.proofs.Opened.{Read, read-none, stops-ended, stops-full, keeps-more, stops-last, reads-on}
 use Rattle.practice.proofs.reading.read_line.Statement.{statement}
 use Rattle.practice.proofs.reading.read_line.Tie as tie
 
 abbrev Inv-loop : tie.InvT-loop
-Inv-loop space₀ used₀ space used = (used ≤ length space) × (length space ≡ length space₀)
+Inv-loop space₀ used₀ space used = Read space₀ space used
 
 abbrev μ-loop : tie.MeasureT-loop
 μ-loop space₀ used₀ space used = length space - used
 
+loop-holds : tie.Need-loop-holds Inv-loop μ-loop
+loop-holds c = read-none (c .before .args .space .now)
+
+same-length : tie.Need-same-length Inv-loop μ-loop
+same-length c = c .before .before .before .before .before .loop .inv .keeps .same
+
 returns : tie.Need-returns Inv-loop μ-loop
-returns c = let l = c .before .before .before .before .before .loop in (l .inv .1, stops-ended (l .space) (l .used) (l .inv .0))
+returns c = let w = c .before .before .before .before .before .loop .inv in (stops-ended w, w .keeps)
+
+same-length-2 : tie.Need-same-length-2 Inv-loop μ-loop
+same-length-2 c = keeps-more (c .before .before .before .before .before .before .before .loop .inv) _ (omega arith) .same
 
 returns-2 : tie.Need-returns-2 Inv-loop μ-loop
 returns-2 c =
-    let l = c .before .before .before .before .before .before .before .loop in
+    let w = c .before .before .before .before .before .before .before .loop .inv in
     let d = sym (c .before .is-digit .ensures) ∙ not-true _ (c .if2 .taken) in
-    (length-set (l .space) (l .used) _ ∙ l .inv .1, stops-last (l .space) (l .used) _ (omega arith) d)
+    (stops-last w _ (omega arith) d, keeps-more w _ (omega arith))
 
 loop-less : tie.Need-loop-less Inv-loop μ-loop
 loop-less c = rw length-set (omega arith)
 
 loop-again : tie.Need-loop-again Inv-loop μ-loop
-loop-again c = let l = c .before .before .before .before .before .before .before .loop in rw length-set (omega arith, l .inv .1)
+loop-again c =
+    let w = c .before .before .before .before .before .before .before .loop .inv in
+    reads-on w _ (omega arith) (sym (c .before .is-digit .ensures) ∙ not-false _ (c .if2 .left))
+
+same-length-3 : tie.Need-same-length-3 Inv-loop μ-loop
+same-length-3 c = c .before .loop .inv .keeps .same
 
 returns-3 : tie.Need-returns-3 Inv-loop μ-loop
-returns-3 c = let l = c .before .loop in (l .inv .1, stops-full (l .space) (l .used) (l .inv .0) (omega arith))
+returns-3 c = let l = c .before .loop in (stops-full (l .inv) (omega arith), l .inv .keeps)
 
 pub read-line-spec : {M : Type 1} → statement M
 read-line-spec =
@@ -39,18 +53,18 @@ read-line-spec =
     (tie.spec
     Inv-loop
     μ-loop
-    (λ c. search needs)
+    loop-holds
     (λ c. search needs)
     (λ c κs. search needs)
-    (λ c. search needs)
+    same-length
     returns
     (λ c. search needs)
     (λ c. search needs)
     (λ c. search needs)
     (λ c κs. search needs)
-    (λ c. search needs)
+    same-length-2
     returns-2
     loop-less
     loop-again
-    (λ c. search needs)
+    same-length-3
     returns-3)

@@ -38,13 +38,15 @@ returns-3 : tie.Need-returns-3 Inv-loop μ-loop
 returns-3 c =
     let t = c .before .before .before .before .before in
     let l = t .loop in
-    reads-other (t .before .before .args .input .now) (l .i) (l .value) (omega arith) (l .inv .3) (sym (c .before .is-digit .ensures) ∙ not-true _ (c .if3 .taken)) (c .before .before .if1 .left)
+    let d = sym (c .before .is-digit .ensures) ∙ not-true _ (c .if3 .taken) in
+    reads-other (t .before .before .args .input .now) (l .i) (l .value) (omega arith) (l .inv .3) d (c .before .before .if1 .left)
 
 returns-4 : tie.Need-returns-4 Inv-loop μ-loop
 returns-4 c =
     let t = c .before .before .before .before .before .before in
     let l = t .loop in
-    reads-long (t .before .before .args .input .now) (l .i) (l .value) (omega arith) (l .inv .3) (sym (c .before .before .is-digit .ensures) ∙ not-false _ (c .before .if3 .left)) (c .if4 .taken)
+    let d = sym (c .before .before .is-digit .ensures) ∙ not-false _ (c .before .if3 .left) in
+    reads-long (t .before .before .args .input .now) (l .i) (l .value) (omega arith) (l .inv .3) d (c .if4 .taken)
 
 mul-value : tie.Need-mul-value Inv-loop μ-loop
 mul-value c =

@@ -1,12 +1,12 @@
 -- `put_axes` puts a 41 for each length. The invariant: those of the first d lengths are put, three bytes each. The measure is the number of lengths to come.
-use Rattle.practice_draw.proofs.Putting.{none-put, axis-put}
 use Prim.Native.Nat.{_-_, _*_, _≤_}
 use mathlib.Core.Path.{_≡_, _∙_, refl, ap}
 use native.Mathlib.Omega.{arith}
+use borrow.Author.Needs.{needs}
 use lib.ListN.{length, take}
 use lib.Seq.{sets}
 use Rattle.tape_spec.specs.Writing.{axisCommand, each}
-use borrow.Author.Needs.{needs}
+use Rattle.practice_draw.proofs.Putting.{none-put, axis-put}
 use Rattle.practice_draw.proofs.tapes.put_axes.Statement.{statement}
 use Rattle.practice_draw.proofs.tapes.put_axes.Tie as tie
 

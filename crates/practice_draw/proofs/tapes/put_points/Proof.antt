@@ -1,15 +1,15 @@
 -- `put_points` puts a 56 for each draw. The invariant: i draws are made from the start, and their commands are put, five bytes each.
 -- The measure is the number of draws to come.
-use Rattle.practice_spec.proofs.Drawn.{after-next}
-use Rattle.practice_draw.proofs.Putting.{after-none, points-none-put, point-put}
 use Prim.Native.Nat.{_+_, _-_, _*_, _≤_}
 use mathlib.Core.Path.{_≡_, _∙_, refl, ap}
 use native.Mathlib.Omega.{arith}
+use borrow.Author.Needs.{needs}
 use lib.ListN.{length}
 use lib.Seq.{sets}
+use Rattle.practice_spec.proofs.Drawn.{after-next}
 use Rattle.tape_spec.specs.Writing.{pointCommand, each}
 use Rattle.practice_spec.specs.Draws.{round, after, drawn, pointBy}
-use borrow.Author.Needs.{needs}
+use Rattle.practice_draw.proofs.Putting.{after-none, points-none-put, point-put}
 use Rattle.practice_draw.proofs.tapes.put_points.Statement.{statement}
 use Rattle.practice_draw.proofs.tapes.put_points.Tie as tie
 
