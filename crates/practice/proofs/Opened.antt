@@ -1,5 +1,5 @@
 -- What was read tells what the whole input prints, and where reading stops.
-use Prim.Native.Nat.{ℕ, suc, _+_, _-_, _≤_, _<_}
+use Prim.Native.Nat.{ℕ, zero, suc, _+_, _-_, _≤_, _<_}
 use mathlib.Core.Path.{_≡_, sym, _∙_, refl, ap}
 use mathlib.Core.Bool.{true, false}
 use mathlib.Core.List.{List, [], _∷_, _++_, append-assoc}
@@ -13,7 +13,7 @@ use Rattle.cube_spec.proofs.Sums.{by}
 use Rattle.practice_spec.specs.Seeds.{isDigit, digitLimit, practised}
 use Rattle.practice_spec.proofs.Reading.{eleven, no-further}
 use Rattle.practice.specs.declared.types.Opening.{Opening}
-use Rattle.practice.specs.Openings.{Stops, Keeps, ReadOf}
+use Rattle.practice.specs.Openings.{openingAfter, spaceAfter, Stops, Keeps, ReadOf}
 
 module _ (input space : List ℕ) (o : Opening) (room : digitLimit < length space) (s : Stops space o) (r : ReadOf input space o) where
   abbrev read : List ℕ
@@ -101,3 +101,50 @@ module _ {space₀ space : List ℕ} {used : ℕ} (w : Read space₀ space used)
               (λ t. let e : i ≡ used = (let g = ltb-false i used t in omega arith) in ap (λ j. isDigit (getD (set space used b) j 0)) e ∙ ap isDigit there ∙ d);
           keeps = keeps-more;
         }
+
+-- ---- one read
+
+module _ (space : List ℕ) (used got b : ℕ) where
+  pub none-read : got ≡ 0 → (record { used = used; ended = true } ≡ openingAfter used got) × (space ≡ spaceAfter space used got b)
+  unfolding openingAfter spaceAfter
+  none-read e = rw e (refl, refl)
+
+  pub some-read : (got ≡ 0 → ⊥) → (record { used = used + 1; ended = false } ≡ openingAfter used got) × (set space used b ≡ spaceAfter space used got b)
+  unfolding openingAfter spaceAfter
+  some-read h = let e : got ≡ suc (got - 1) = omega (arith, h) in rw e (refl, refl)
+
+  told-ended : openingAfter used got .ended ≡ true → got ≡ 0
+  told-ended t = by-end got t
+    where
+      by-end : (n : ℕ) → openingAfter used n .ended ≡ true → n ≡ 0
+      by-end zero t = refl
+      by-end (suc n) t = clash (sym (unfold openingAfter in t))
+
+  told-more : openingAfter used got .ended ≡ false → got ≡ 0 → ⊥
+  unfolding openingAfter
+  told-more t e = clash (rw e at t)
+
+-- a turn of the loop: by what it tells of the end, and the byte
+module _ (space₀ space space′ : List ℕ) (used got b : ℕ) (o : Opening) (w : Read space₀ space used) (h : used < length space)
+    (e : o ≡ openingAfter used got) (f : space′ ≡ spaceAfter space used got b) where
+  ended-here : o .ended ≡ true → (o ≡ record { used = used; ended = true }) × (space′ ≡ space)
+  ended-here t =
+      let n = none-read space used got b (told-ended space used got b (ap (λ (x : Opening). x .ended) (sym e) ∙ t)) in
+      (e ∙ sym (n .0), f ∙ sym (n .1))
+
+  more-here : o .ended ≡ false → (o ≡ record { used = used + 1; ended = false }) × (space′ ≡ set space used b)
+  more-here t =
+      let n = some-read space used got b (told-more space used got b (ap (λ (x : Opening). x .ended) (sym e) ∙ t)) in
+      (e ∙ sym (n .0), f ∙ sym (n .1))
+
+  pub turn-ended : o .ended ≡ true → Stops space′ o × Keeps space₀ space′ (o .used)
+  turn-ended t = let x = ended-here t in rw (x .0, x .1) (stops-ended w, w .keeps)
+
+  pub turn-last : o .ended ≡ false → isDigit b ≡ false → Stops space′ o × Keeps space₀ space′ (o .used)
+  turn-last t d = let x = more-here t in rw (x .0, x .1) (stops-last w b h d, keeps-more w b h)
+
+  pub turn-on : o .ended ≡ false → isDigit b ≡ true → Read space₀ space′ (o .used)
+  turn-on t d = let x = more-here t in rw (x .0, x .1) (reads-on w b h d)
+
+  pub turn-less : o .ended ≡ false → length space′ - o .used < length space - used
+  turn-less t = let x = more-here t in let n = length-set space used b in rw (x .0, x .1) (omega arith)

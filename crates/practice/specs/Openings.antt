@@ -1,12 +1,21 @@
 -- How much of its input the program reads, and what it prints then.
-use Prim.Native.Nat.{ℕ, _+_, _-_, _≤_, _<_}
+use Prim.Native.Nat.{ℕ, zero, suc, _+_, _-_, _≤_, _<_}
 use mathlib.Core.Path.{_≡_}
 use mathlib.Core.Bool.{true, false}
 use mathlib.Core.List.{List}
-use lib.ListN.{length, getD, take}
+use lib.ListN.{length, getD, take, set}
 use lib.Seq.{sets}
 use Rattle.practice_spec.specs.Seeds.{isDigit, practised}
 use Rattle.practice.specs.declared.types.Opening.{Opening}
+
+-- After a read that gave so many bytes, 1 or 0: its byte stands at the next place, or the input ended.
+unfoldable pub openingAfter : ℕ → ℕ → Opening
+openingAfter used zero = record { used = used; ended = true }
+openingAfter used (suc n) = record { used = used + 1; ended = false }
+
+unfoldable pub spaceAfter : List ℕ → ℕ → ℕ → ℕ → List ℕ
+spaceAfter space used zero b = space
+spaceAfter space used (suc n) b = set space used b
 
 -- It reads no further than the first byte that is no digit: every byte before the last is one. It stops where the input ends, where the space is
 -- full, or else after a byte that is no digit.

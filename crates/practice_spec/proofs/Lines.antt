@@ -56,7 +56,9 @@ asks-taken input seed a =
     let p = parted (a .digits) (a .rest) (a .decimal) in
     let e : value 0 (a .digits) ≡ seed = (let v = value-spelt 0 (a .digits) in let s = a .number in omega arith) in
     let z : (seed ≡ 0 → ⊥) = λ z. (let l = a .least in omega arith) in
-    rw (a .line, p .0, p .1, e, le-leb 1 n (a .one-digit), le-leb n digitLimit (a .ten-digits), ne-eqb seed 0 z, le-ltb seedLimit seed (a .most)) (refl, refl)
+    let few : n ≤ digitLimit = (let l = a .ten-digits in omega arith) in
+    let most : seed ≤ seedLimit = (let l = a .most in omega arith) in
+    rw (a .line, p .0, p .1, e, le-leb 1 n (a .one-digit), le-leb n digitLimit few, ne-eqb seed 0 z, le-ltb seedLimit seed most) (refl, refl)
 
 -- ---- and no others
 

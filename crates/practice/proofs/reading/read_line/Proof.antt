@@ -1,11 +1,11 @@
--- `read_line` puts one byte after the other. The invariant: those read are digits, and the other cells are kept. The measure is the room left.
+-- `read_line` reads byte after byte. The invariant: those read are digits, and the other cells are kept. The measure is the room left.
 use Prim.Native.Nat.{_-_}
 use mathlib.Core.Path.{sym, _∙_}
 use native.Mathlib.Omega.{arith}
 use borrow.Author.Needs.{needs}
-use lib.ListN.{length, length-set}
+use lib.ListN.{length}
 use Rattle.cube_spec.proofs.Naturals.{not-true, not-false}
-use Rattle.practice.proofs.Opened.{Read, read-none, stops-ended, stops-full, keeps-more, stops-last, reads-on}
+use Rattle.practice.proofs.Opened.{Read, read-none, stops-full, turn-ended, turn-last, turn-on, turn-less}
 use Rattle.practice.proofs.reading.read_line.Statement.{statement}
 use Rattle.practice.proofs.reading.read_line.Tie as tie
 
@@ -18,28 +18,31 @@ abbrev μ-loop : tie.MeasureT-loop
 loop-holds : tie.Need-loop-holds Inv-loop μ-loop
 loop-holds c = read-none (c .before .args .space .now)
 
-same-length : tie.Need-same-length Inv-loop μ-loop
-same-length c = c .before .before .before .before .before .loop .inv .keeps .same
-
 returns : tie.Need-returns Inv-loop μ-loop
-returns c = let w = c .before .before .before .before .before .loop .inv in (stops-ended w, w .keeps)
-
-same-length-2 : tie.Need-same-length-2 Inv-loop μ-loop
-same-length-2 c = keeps-more (c .before .before .before .before .before .before .before .loop .inv) _ (omega arith) .same
+returns c =
+    let p = c .before .before .before .put-byte in
+    let w = c .before .before .before .before .before .before .before .before .before .loop .inv in
+    turn-ended _ _ _ _ _ _ _ w (omega arith) (p .ensures .0) (p .ensures .1) (c .if1 .taken)
 
 returns-2 : tie.Need-returns-2 Inv-loop μ-loop
 returns-2 c =
-    let w = c .before .before .before .before .before .before .before .loop .inv in
+    let p = c .before .before .before .before .before .put-byte in
+    let w = c .before .before .before .before .before .before .before .before .before .before .before .loop .inv in
     let d = sym (c .before .is-digit .ensures) ∙ not-true _ (c .if2 .taken) in
-    (stops-last w _ (omega arith) d, keeps-more w _ (omega arith))
+    turn-last _ _ _ _ _ _ _ w (omega arith) (p .ensures .0) (p .ensures .1) (c .before .before .if1 .left) d
 
 loop-less : tie.Need-loop-less Inv-loop μ-loop
-loop-less c = rw length-set (omega arith)
+loop-less c =
+    let p = c .before .before .before .before .before .put-byte in
+    let w = c .before .before .before .before .before .before .before .before .before .before .before .loop .inv in
+    turn-less _ _ _ _ _ _ _ w (omega arith) (p .ensures .0) (p .ensures .1) (c .before .before .if1 .left)
 
 loop-again : tie.Need-loop-again Inv-loop μ-loop
 loop-again c =
-    let w = c .before .before .before .before .before .before .before .loop .inv in
-    reads-on w _ (omega arith) (sym (c .before .is-digit .ensures) ∙ not-false _ (c .if2 .left))
+    let p = c .before .before .before .before .before .put-byte in
+    let w = c .before .before .before .before .before .before .before .before .before .before .before .loop .inv in
+    let d = sym (c .before .is-digit .ensures) ∙ not-false _ (c .if2 .left) in
+    turn-on _ _ _ _ _ _ _ w (omega arith) (p .ensures .0) (p .ensures .1) (c .before .before .if1 .left) d
 
 same-length-3 : tie.Need-same-length-3 Inv-loop μ-loop
 same-length-3 c = c .before .loop .inv .keeps .same
@@ -56,13 +59,12 @@ read-line-spec =
     loop-holds
     (λ c. search needs)
     (λ c κs. search needs)
-    same-length
-    returns
-    (λ c. search needs)
-    (λ c. search needs)
     (λ c. search needs)
     (λ c κs. search needs)
-    same-length-2
+    (λ c. search needs)
+    returns
+    (λ c κs. search needs)
+    (λ c. search needs)
     returns-2
     loop-less
     loop-again
