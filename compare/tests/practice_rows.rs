@@ -40,17 +40,12 @@ fn listed(items: &str) -> impl Iterator<Item = &str> {
 }
 
 fn rows(module: &str) -> Vec<Row<'_>> {
-    let mut group = "";
-    let mut rows = Vec::new();
-    for line in module.lines() {
-        group = line.strip_suffix(" =").unwrap_or(group);
-        if let Some((_, row)) = line.split_once("record { ") {
-            let fields = row.strip_suffix(" }").unwrap().split("; ");
-            let fields = fields.map(|field| field.split_once(" = ").unwrap()).collect();
-            rows.push(Row { group, fields });
-        }
-    }
-    rows
+    let rows = common::rows::rows(module, "record { ").into_iter();
+    rows.map(|(group, row)| Row { group, fields: fields(row) }).collect()
+}
+
+fn fields(row: &str) -> Vec<(&str, &str)> {
+    row.split("; ").map(|field| field.split_once(" = ").unwrap()).collect()
 }
 
 /// `pos 5` is 5, and `negsuc 4` is -5.

@@ -3,6 +3,7 @@
 pub mod exact;
 pub mod marks;
 pub mod process;
+pub mod rows;
 pub mod wide;
 
 pub use compare::order::every as orders;

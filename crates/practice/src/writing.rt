@@ -9,7 +9,8 @@ ghost use Rattle.practice.specs.Openings.{Stops, PrintsAfter};
 use crate::types::Opening;
 use practice_draw::printing::practise;
 
-// Writes what is printed for an input, which the buffer has at its start; gives whether the system took all of it. The input is lent for the contract alone.
+// Writes what is printed for an input, which the buffer has at its start; gives whether the system took all of it.
+// The input is lent for the contract alone.
 fn write(input: &[u8], out: &[u8], used: usize) -> bool
     requires { ⌜ (used ≤ length (now out)) × (take used (now out) ≡ practised (now input)) ⌝ }
 {
@@ -26,7 +27,8 @@ fn print_for(input: &[u8], out: &mut [u8]) -> usize
     used
 }
 
-// From what was read into a space to what is printed. The space has room for more bytes than a seed has digits: of an input that goes on, the bytes that were not read do not matter.
+// From what was read into a space to what is printed. The space has room for more bytes than a seed has digits: of an input that
+// goes on, the bytes that were not read do not matter.
 pub fn print(space: &[u8], opening: Opening, out: &mut [u8]) -> usize
     requires { ⌜ (digitLimit < length (now space)) × Stops (now space) opening × (longestTape ≤ length (now out)) ⌝ }
     ensures { λ r. ⌜ PrintsAfter (now (space .entry)) opening (now (out .entry)) r (now (out .exit)) ⌝ }
