@@ -4,6 +4,7 @@
 mod common;
 
 use std::process::Output;
+use std::sync::LazyLock;
 use std::time::{Duration, Instant};
 
 use common::process::{compare, last_line, script, text, PROGRAM};
@@ -41,8 +42,12 @@ fn practice() -> String {
     format!("{PROGRAM} practice 2>/dev/null")
 }
 
+/// Written once: a script that another test is running must not be written anew.
+static TOTALS: LazyLock<String> =
+    LazyLock::new(|| script("totals_same", &format!("exec {PROGRAM} totals 2>/dev/null")));
+
 fn totals() -> String {
-    script("totals_same", &format!("exec {PROGRAM} totals 2>/dev/null"))
+    TOTALS.clone()
 }
 
 /// Passed and failed, by the last line.
