@@ -13,7 +13,6 @@ use borrow.Author.Tests.{eqb-true, eqb-false, eq-eqb, ne-eqb}
 use Rattle.cube_spec.specs.Limits.{axisLimit, lengthLimit, pointLimit, padded}
 use Rattle.cube_spec.specs.Boxes.{pick, table, product, place, position}
 use Rattle.cube_spec.specs.Choices.{keeps, fullMask, points, lengthOf}
-use Rattle.cube_spec.specs.Portions.{portionStart}
 use Rattle.cube_spec.specs.Tree as Tree
 use Rattle.cube_spec.specs.Tree.{has, kept, next}
 use Rattle.cube_spec.proofs.Sums.{by}
@@ -191,9 +190,6 @@ module _ (q : Plan) (ok : Accepted q) where
       let e = ok .axes in
       let b = order-below (listsOf q) (ok .sound) d (omega arith) in
       ok .lengths .short (getD (listsOf q .order) d 0) b
-
-  pub start-slot : (d l : ℕ) → d < q .axes → l * getD (q .lengths) (getD (q .order) d 0) 0 / planGrid q .parts d ≡ planGrid q .start d l
-  start-slot d l h = rw (len-slot d h) (unfold gridOf portionStart in refl)
 
   pub start-small : (d l : ℕ) → d < q .axes → l ≤ planGrid q .parts d → planGrid q .start d l ≤ lengthLimit
   start-small d l h r =
