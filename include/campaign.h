@@ -82,8 +82,9 @@ extern "C" {
 /*
  * A plan. Lengths and exponents are by axis number; order[i] is the axis at place i of the plan.
  * An axis with exponent k is cut in 2^k portions, and the exponents sum to p: the plan uses 2^p
- * boards. A caller may fill one in by hand, and any lawful plan can be priced and run: set it to
- * {0} first.
+ * boards. The first (length mod 2^k) portions have one position more than the others, so that no
+ * board ever holds more than board 0 does after the first step. A caller may fill a plan in by
+ * hand, and any lawful plan can be priced and run: set it to {0} first.
  */
 struct campaign_rack_plan {
     uint8_t axes;

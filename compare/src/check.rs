@@ -6,6 +6,7 @@ pub mod coverage;
 mod difference;
 pub mod exercises;
 mod handed;
+pub mod lengths;
 mod once;
 pub mod patience;
 mod shut;

@@ -1,6 +1,6 @@
 //! Held: a board's cells of the choices that are formed and not yet finished.
 
-use crate::board;
+use crate::board::{is_lead, Boards};
 use crate::choice::{self, Choice};
 use crate::plan::Plan;
 use crate::price::last_summed;
@@ -16,24 +16,28 @@ struct Span {
 }
 
 pub struct Held<'a> {
-    plan: &'a Plan,
+    boards: Boards<'a>,
     spans: Vec<Span>,
 }
 
 impl Held<'_> {
     pub fn new<'a>(plan: &'a Plan, steps: &[Step]) -> Held<'a> {
-        let choices = 0..choice::full(plan.axes());
-        let spans = choices.map(|choice| span(plan, steps, choice)).collect();
-        Held { plan, spans }
+        Held::on(Boards::new(plan), steps)
+    }
+
+    pub fn on<'a>(boards: Boards<'a>, steps: &[Step]) -> Held<'a> {
+        let choices = 0..choice::full(boards.plan.axes());
+        let spans = choices.map(|choice| span(boards.plan, steps, choice)).collect();
+        Held { boards, spans }
     }
 
     /// The sum over every choice held at this position.
     pub fn at(&self, position: usize, board: u64) -> u64 {
         let held = |span: &&Span| span.formed <= position && position < span.finished;
         // The parent's leads form the child's cells; senders keep them too.
-        let formed_here = |span: &&Span| board::is_lead(self.plan, board, span.parent);
+        let formed_here = |span: &&Span| is_lead(self.boards.plan, board, span.parent);
         let spans = self.spans.iter().filter(held).filter(formed_here);
-        spans.map(|span| board::cells(self.plan, board, span.choice)).sum()
+        spans.map(|span| self.boards.cells(board, span.choice)).sum()
     }
 }
 

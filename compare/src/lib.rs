@@ -18,6 +18,7 @@ pub mod order;
 pub mod patterns;
 pub mod pieces;
 pub mod plan;
+pub mod portions;
 pub mod practice;
 pub mod price;
 pub mod program;

@@ -1,8 +1,10 @@
 //! Small plans with their steps, what each board holds and what the work area
 //! has after each step, as antt modules.
 
+use crate::board::Boards;
 use crate::held::Held;
 use crate::plan::Plan;
+use crate::portions::{dealt, Rule};
 use crate::rack::Rack;
 use crate::random::Random;
 use crate::steps::{self, Step};
@@ -54,10 +56,21 @@ pub fn memory_module() -> String {
     module(MEMORY, cases(), listed_memory)
 }
 
-fn module(opening: &str, cases: Vec<Case>, fields: fn(&Plan) -> String) -> String {
+/// What is listed of each case, its axes cut by any rule.
+pub fn steps_by(rule: Rule) -> Vec<(&'static str, String)> {
+    let listed = |case: Case| (case.name, listed_steps(rule, &case.plan));
+    cases().into_iter().map(listed).collect()
+}
+
+pub fn memory_by(rule: Rule) -> Vec<(&'static str, String)> {
+    let listed = |case: Case| (case.name, listed_memory(rule, &case.plan));
+    cases().into_iter().map(listed).collect()
+}
+
+fn module(opening: &str, cases: Vec<Case>, fields: fn(Rule, &Plan) -> String) -> String {
     let mut text = opening.to_string();
     for Case { name, says, plan } in &cases {
-        let (plan, fields) = (record(plan), fields(plan));
+        let (plan, fields) = (record(plan), fields(dealt, plan));
         text += &format!(
             "\n-- {says}\nunfoldable pub {name} : Case\n\
              {name} = record {{ plan = {plan}; {fields} }}\n"
@@ -72,9 +85,10 @@ fn record(plan: &Plan) -> String {
     format!("record {{ lengths = {lengths}; order = {order}; exponents = {exponents}; p = {p} }}")
 }
 
-fn listed_steps(plan: &Plan) -> String {
-    let steps = steps::list(plan);
-    let held = Held::new(plan, &steps);
+fn listed_steps(rule: Rule, plan: &Plan) -> String {
+    let boards = Boards::cut_by(rule, plan);
+    let steps = steps::list_on(&boards);
+    let held = Held::on(boards, &steps);
     let on = |board| -> Vec<u64> { (0..=steps.len()).map(|at| held.at(at, board)).collect() };
     let held: Vec<String> = (0..plan.boards()).map(|board| bracketed(&on(board))).collect();
     let told: Vec<String> = steps.iter().map(told).collect();
@@ -91,13 +105,15 @@ fn told(step: &Step) -> String {
     }
 }
 
-fn listed_memory(plan: &Plan) -> String {
+fn listed_memory(rule: Rule, plan: &Plan) -> String {
+    let boards = Boards::cut_by(rule, plan);
+    let steps = steps::list_on(&boards);
     let mut random = Random::new(plan.lengths.iter().sum());
     let array = points(plan, &mut random);
     let before: Vec<i64> = (0..plan.work_area() + 2).map(|_| garbage(&mut random)).collect();
-    let mut rack = Rack::new(plan, &array, before.clone());
+    let mut rack = Rack::on(boards, &array, before.clone());
     let (mut areas, mut gathered, mut viewed) = (Vec::new(), Vec::new(), Vec::new());
-    for step in steps::list(plan) {
+    for step in steps {
         rack.take(step);
         areas.push(cells(&rack.work));
         if let Step::Finish(choice) = step {
@@ -162,6 +178,7 @@ fn cases() -> Vec<Case> {
         case("longer-axis-second", "the longer axis second", &[3, 5], &[1, 0], &[0, 1]),
         case("both-split", "shortest axis first, both split", &[3, 2], &[1, 0], &[1, 1]),
         case("uneven", "an axis cut unevenly, and the last one", &[7, 2], &[0, 1], &[2, 1]),
+        case("spare-two", "two spare points among four portions", &[6, 2], &[1, 0], &[2, 1]),
         case("undivided", "one board, three axes", &[2, 3, 2], &[1, 2, 0], &[0, 0, 0]),
         case("three-axes", "the last and the first axis split", &[2, 3, 3], &[2, 0, 1], &[0, 1, 1]),
     ]

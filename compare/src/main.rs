@@ -7,8 +7,8 @@ use compare::judge::{self, Refusal};
 use compare::links::{Found, Prices, Request};
 use compare::plan::{planning, Plan, Planned};
 use compare::{
-    bench, check, description, listed, make, marked, patterns, practice, price, scans, show, table,
-    totals, weighed,
+    bench, check, description, listed, make, marked, patterns, portions, practice, price, scans,
+    show, table, totals, weighed,
 };
 
 const USAGE: &str = "\
@@ -32,16 +32,19 @@ usage: compare totals                   tape on standard input, totals on standa
                                         summed: compare links 3 4,9 1,5 2
        compare tapes SEED N DIR         write N made tapes, each with what is printed for it
        compare check PROGRAM SEED N     run a program on N made tapes and compare
+       compare lengths PROGRAM SEED N   run a program on tapes of every length up to N with every
+                                        p that it allows, alone and beside others, and compare
        compare exercises GENERATOR TOTALS SEED N
                                         run a generator on lines of N seeds and on damaged
                                         ones, and another program on its tapes, and compare
        compare bench [PROGRAM]          time the largest campaigns, each as a whole process
        compare table TOPIC              cases for the definitions, as an antt module:
                                         tapes (with their output), scans (of other
-                                        tapes), steps (with what is held), memory (after
-                                        each step), marks (plans with their prices), links
-                                        (searches with their answers), practice (seed lines
-                                        with their tapes) or readings (with what each gives)
+                                        tapes), portions (of axes), steps (with what is
+                                        held), memory (after each step), marks (plans with
+                                        their prices), links (searches with their answers),
+                                        practice (seed lines with their tapes) or readings
+                                        (with what each gives)
 
 A report is what is printed for a tape. A campaign as text, for example:
 
@@ -93,6 +96,10 @@ fn run(words: &[&str]) -> Option<io::Result<bool>> {
         ["check", program, seed, count] => {
             Some(Ok(check::run(program, seed.parse().ok()?, count.parse().ok()?)))
         }
+        ["lengths", program, seed, longest] => {
+            let (seed, longest) = (seed.parse().ok()?, longest.parse().ok()?);
+            Some(Ok(check::lengths::run(program, seed, longest)))
+        }
         ["exercises", generator, totals, seed, count] => {
             let (seed, count) = (seed.parse().ok()?, count.parse().ok()?);
             Some(Ok(check::exercises::run(generator, totals, seed, count)))
@@ -119,6 +126,7 @@ fn module(topic: &str) -> Option<String> {
     match topic {
         "tapes" => Some(table::module()),
         "scans" => Some(scans::module()),
+        "portions" => Some(portions::table::module()),
         "steps" => Some(listed::steps_module()),
         "memory" => Some(listed::memory_module()),
         "marks" => Some(marked::module()),

@@ -1,12 +1,12 @@
 //! A simulated rack: runs the steps of a lawful plan on a work area.
 
-use crate::board;
+use crate::board::{is_lead, leads, Boards};
 use crate::choice::{self, Choice};
 use crate::plan::Plan;
 use crate::steps::{Step, Transfer};
 
 pub struct Rack<'a> {
-    plan: &'a Plan,
+    boards: Boards<'a>,
     points: &'a [i32],
     /// 2^p shares; what it held before plays no part.
     pub work: Vec<i64>,
@@ -14,8 +14,12 @@ pub struct Rack<'a> {
 
 impl<'a> Rack<'a> {
     pub fn new(plan: &'a Plan, points: &'a [i32], work: Vec<i64>) -> Rack<'a> {
-        assert!(work.len() as u64 >= plan.work_area());
-        Rack { plan, points, work }
+        Rack::on(Boards::new(plan), points, work)
+    }
+
+    pub fn on(boards: Boards<'a>, points: &'a [i32], work: Vec<i64>) -> Rack<'a> {
+        assert!(work.len() as u64 >= boards.plan.work_area());
+        Rack { boards, points, work }
     }
 
     pub fn take(&mut self, step: Step) {
@@ -28,37 +32,37 @@ impl<'a> Rack<'a> {
 
     /// Each lead sums its cells of the parent into all children.
     fn expand(&mut self, parent: Choice) {
-        for board in board::leads(self.plan, parent) {
-            for child in children(self.plan, parent) {
+        for board in leads(self.boards.plan, parent) {
+            for child in children(self.boards.plan, parent) {
                 self.form(board, parent, child);
             }
         }
     }
 
     fn form(&mut self, board: u64, parent: Choice, child: Choice) {
-        let place = board::place(self.plan, board, child);
+        let place = self.boards.place(board, child);
         self.work[place.clone()].fill(0);
-        for position in positions(self.plan, board, parent) {
+        for position in positions(&self.boards, board, parent) {
             let value = self.value(board, parent, &position);
-            let cell = place.start + cell_of(self.plan, board, child, &position);
+            let cell = place.start + cell_of(&self.boards, board, child, &position);
             self.work[cell] = self.work[cell].wrapping_add(value);
         }
     }
 
     /// The root's cells are the points; any other choice's are in the work area.
     fn value(&self, board: u64, choice: Choice, position: &[u64]) -> i64 {
-        if choice == choice::full(self.plan.axes()) {
-            return i64::from(self.points[point_number(self.plan, board, position)]);
+        if choice == choice::full(self.boards.plan.axes()) {
+            return i64::from(self.points[point_number(&self.boards, board, position)]);
         }
-        let place = board::place(self.plan, board, choice);
-        self.work[place.start + cell_of(self.plan, board, choice, position)]
+        let place = self.boards.place(board, choice);
+        self.work[place.start + cell_of(&self.boards, board, choice, position)]
     }
 
     /// Sender and receiver differ along the summed axis only, so their cells of
     /// the child match one to one.
     fn transfer(&mut self, transfer: Transfer) {
-        let from = board::place(self.plan, transfer.sender, transfer.choice);
-        let to = board::place(self.plan, transfer.receiver, transfer.choice);
+        let from = self.boards.place(transfer.sender, transfer.choice);
+        let to = self.boards.place(transfer.receiver, transfer.choice);
         assert_eq!((from.len() as u64, to.len() as u64), (transfer.values, transfer.values));
         for (from, to) in from.zip(to) {
             self.work[to] = self.work[to].wrapping_add(self.work[from]);
@@ -67,8 +71,8 @@ impl<'a> Rack<'a> {
 
     /// A board's cells of a finished choice, none for a board that is no lead.
     pub fn view(&self, choice: Choice, board: u64) -> &[i64] {
-        if board::is_lead(self.plan, board, choice) {
-            &self.work[board::place(self.plan, board, choice)]
+        if is_lead(self.boards.plan, board, choice) {
+            &self.work[self.boards.place(board, choice)]
         } else {
             &[]
         }
@@ -76,12 +80,12 @@ impl<'a> Rack<'a> {
 
     /// A finished choice whole, row-major in axis order.
     pub fn gather(&self, choice: Choice) -> Vec<i64> {
-        let mut gathered = vec![0; choice::cells(&self.plan.lengths, choice) as usize];
-        for board in board::leads(self.plan, choice) {
+        let mut gathered = vec![0; choice::cells(&self.boards.plan.lengths, choice) as usize];
+        for board in leads(self.boards.plan, choice) {
             let cells = self.view(choice, board);
-            for position in positions(self.plan, board, choice) {
-                let cell = cells[cell_of(self.plan, board, choice, &position)];
-                gathered[gathered_cell(self.plan, board, choice, &position)] = cell;
+            for position in positions(&self.boards, board, choice) {
+                let cell = cells[cell_of(&self.boards, board, choice, &position)];
+                gathered[gathered_cell(&self.boards, board, choice, &position)] = cell;
             }
         }
         gathered
@@ -97,8 +101,8 @@ fn children(plan: &Plan, parent: Choice) -> impl Iterator<Item = Choice> + '_ {
 
 /// Every position within a board's own extents of a choice, by axis number; 0
 /// along summed axes.
-fn positions(plan: &Plan, board: u64, choice: Choice) -> Vec<Vec<u64>> {
-    let extents = board::extents(plan, board, choice);
+fn positions(boards: &Boards, board: u64, choice: Choice) -> Vec<Vec<u64>> {
+    let extents = boards.extents(board, choice);
     let mut positions = vec![Vec::new()];
     for extent in extents {
         let longer = |position: &Vec<u64>| {
@@ -112,22 +116,23 @@ fn positions(plan: &Plan, board: u64, choice: Choice) -> Vec<Vec<u64>> {
 
 /// The cell at a position of the parent's or the choice's own, row-major in plan
 /// order over the board's extents.
-fn cell_of(plan: &Plan, board: u64, choice: Choice, position: &[u64]) -> usize {
-    let extents = board::extents(plan, board, choice);
-    let kept = plan.order.iter().filter(|&&axis| choice::keeps(choice, axis));
+fn cell_of(boards: &Boards, board: u64, choice: Choice, position: &[u64]) -> usize {
+    let extents = boards.extents(board, choice);
+    let kept = boards.plan.order.iter().filter(|&&axis| choice::keeps(choice, axis));
     kept.fold(0, |cell, &axis| cell * extents[axis] + position[axis]) as usize
 }
 
-fn point_number(plan: &Plan, board: u64, position: &[u64]) -> usize {
-    gathered_cell(plan, board, choice::full(plan.axes()), position)
+fn point_number(boards: &Boards, board: u64, position: &[u64]) -> usize {
+    gathered_cell(boards, board, choice::full(boards.plan.axes()), position)
 }
 
 /// Row-major in axis order over the whole lengths.
-fn gathered_cell(plan: &Plan, board: u64, choice: Choice, position: &[u64]) -> usize {
-    let kept = (0..plan.axes()).filter(|&axis| choice::keeps(choice, axis));
+fn gathered_cell(boards: &Boards, board: u64, choice: Choice, position: &[u64]) -> usize {
+    let lengths = &boards.plan.lengths;
+    let kept = (0..lengths.len()).filter(|&axis| choice::keeps(choice, axis));
     let cell = kept.fold(0, |cell, axis| {
-        let at = board::portion(plan, board, axis).start + position[axis];
-        cell * plan.lengths[axis] + at
+        let at = boards.portion(board, axis).start + position[axis];
+        cell * lengths[axis] + at
     });
     cell as usize
 }

@@ -6,6 +6,7 @@ use std::io::{self, Read, Write};
 
 use crate::judge::Refusal;
 use crate::plan::Plan;
+use crate::portions::dealt;
 use crate::report::{self, Group, Report, Totals};
 use crate::words;
 
@@ -50,13 +51,22 @@ fn plan(totals: &Totals) -> String {
 fn axes(plan: &Plan) -> String {
     let row = |&axis: &usize| {
         let (length, portions) = (plan.lengths[axis], 1 << plan.exponents[axis]);
-        let (least, most) = (length / portions, length.div_ceil(portions));
-        let positions =
-            if least == most { least.to_string() } else { format!("{least} or {most}") };
+        let positions = positions(&dealt(length, portions));
         format!("{axis:>6}{length:>8}{portions:>10}  {positions}\n")
     };
     let rows: String = plan.order.iter().map(row).collect();
     format!("axes, in plan order\n  axis  length  portions  positions of a portion\n{rows}")
+}
+
+/// How many the first portions have, and how many the others, where it does not come out even.
+fn positions(portions: &[u64]) -> String {
+    let (most, least) = (portions[0], portions[portions.len() - 1]);
+    let longer = portions.iter().filter(|&&length| length > least).count();
+    match longer {
+        0 => most.to_string(),
+        1 => format!("{most} in the first, then {least}"),
+        _ => format!("{most} in the first {longer}, then {least}"),
+    }
 }
 
 /// The grand total comes first, as it has no table.

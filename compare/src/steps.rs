@@ -1,6 +1,6 @@
 //! The whole list of steps of a lawful plan.
 
-use crate::board;
+use crate::board::{leads, shift, Boards};
 use crate::choice::{self, Choice};
 use crate::plan::Plan;
 
@@ -20,37 +20,46 @@ pub struct Transfer {
 }
 
 pub fn list(plan: &Plan) -> Vec<Step> {
+    list_on(&Boards::new(plan))
+}
+
+pub fn list_on(boards: &Boards) -> Vec<Step> {
     let mut steps = Vec::new();
-    visit(plan, choice::full(plan.axes()), 0, &mut steps);
+    visit(boards, choice::full(boards.plan.axes()), 0, &mut steps);
     steps
 }
 
 /// Expands a choice whose children sum out one of the axes from place `first`
 /// on, and takes its children from right to left.
-fn visit(plan: &Plan, parent: Choice, first: usize, steps: &mut Vec<Step>) {
+fn visit(boards: &Boards, parent: Choice, first: usize, steps: &mut Vec<Step>) {
+    let plan = boards.plan;
     steps.push(Step::Expand(parent));
     for place in (first..plan.axes()).rev() {
         let axis = plan.order[place];
         let child = choice::without(parent, axis);
-        steps.extend(transfers(plan, child, axis).map(Step::Transfer));
+        steps.extend(transfers(boards, child, axis).map(Step::Transfer));
         if place + 1 < plan.axes() {
-            visit(plan, child, place + 1, steps);
+            visit(boards, child, place + 1, steps);
         }
         steps.push(Step::Finish(child));
     }
 }
 
 /// Leads by ascending number, for each its senders by ascending label.
-fn transfers(plan: &Plan, child: Choice, axis: usize) -> impl Iterator<Item = Transfer> + '_ {
-    let labels = 1..1 << plan.exponents[axis];
+fn transfers<'a>(
+    boards: &'a Boards,
+    child: Choice,
+    axis: usize,
+) -> impl Iterator<Item = Transfer> + 'a {
+    let labels = 1..1 << boards.plan.exponents[axis];
     let to_lead =
-        move |lead| labels.clone().map(move |label| transfer(plan, child, axis, lead, label));
-    board::leads(plan, child).flat_map(to_lead)
+        move |lead| labels.clone().map(move |label| transfer(boards, child, axis, lead, label));
+    leads(boards.plan, child).flat_map(to_lead)
 }
 
 /// The sender differs from the lead by its label on the axis just summed.
-fn transfer(plan: &Plan, child: Choice, axis: usize, lead: u64, label: u64) -> Transfer {
-    let sender = lead + (label << board::shift(plan, axis));
-    let values = board::cells(plan, sender, child);
+fn transfer(boards: &Boards, child: Choice, axis: usize, lead: u64, label: u64) -> Transfer {
+    let sender = lead + (label << shift(boards.plan, axis));
+    let values = boards.cells(sender, child);
     Transfer { sender, receiver: lead, choice: child, values }
 }

@@ -9,9 +9,11 @@ use std::time::{Duration, Instant};
 use common::process::{compare, last_line, script, text, PROGRAM};
 use compare::check::counted;
 use compare::check::coverage::{self, Idle, Outcome};
+use compare::check::lengths;
 use compare::pieces::Pieces;
 use compare::program;
 use compare::random::Random;
+use compare::shape::Shape;
 
 /// What the paper has the program print.
 const REPORT: &str =
@@ -64,6 +66,41 @@ fn what_differs_is_found() {
     }
     let nowhere = compare(&["check", "/no/such/program", "1", "3"]);
     assert_eq!(last_line(&nowhere), format!("0 passed, {} failed", 3 + SHUT));
+}
+
+/// Alone with every exponent: lengths 1 to 64 allow 328. And each is at every place beside others.
+#[test]
+fn every_length_comes_with_every_p() {
+    let shapes = lengths::shapes(64);
+    let alone: Vec<(u16, u8)> = shapes
+        .iter()
+        .filter_map(|shape| match shape.lengths[..] {
+            [length] => Some((length, shape.p)),
+            _ => None,
+        })
+        .collect();
+    let due = (1..=64u16).flat_map(|length| (0..=6).map(move |p| (length, p)));
+    assert!(alone.iter().copied().eq(due.filter(|&(length, p)| 1 << p <= length)));
+    assert_eq!(alone.len(), 328);
+    for lengths in [&[37, 3][..], &[5, 64], &[41, 3, 2], &[3, 41, 2], &[5, 3, 63]] {
+        let of_these = shapes.iter().filter(|shape| shape.lengths == lengths);
+        assert!(of_these.map(|shape| shape.p).eq(0..=Shape::new(lengths, 0).halvings() as u8));
+    }
+    assert!(shapes.iter().all(Shape::is_taken));
+}
+
+#[test]
+fn every_length_is_compared() {
+    let count = lengths::shapes(6).len();
+    let output = compare(&["lengths", &script("same_lengths", &same_program()), "1", "6"]);
+    assert_eq!(last_line(&output), format!("{count} passed, 0 failed"));
+    assert!(output.status.success() && output.stderr.is_empty());
+    let wrong =
+        format!("{PROGRAM} totals 2>/dev/null | sed 's/^group 1 \\([^ ]*\\) /group 1 7\\1 /'");
+    let output = compare(&["lengths", &script("lengths_off", &wrong), "1", "6"]);
+    let (passed, failed) = counts(&output);
+    assert!(passed > 0 && failed > 0 && passed + failed == count, "{}", last_line(&output));
+    assert_eq!(output.status.code(), Some(1));
 }
 
 /// A program that takes the first read for the whole tape is right on short tapes that come

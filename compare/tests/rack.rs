@@ -6,6 +6,7 @@ mod common;
 use std::collections::{BTreeMap, BTreeSet};
 
 use common::{any_points, highest_p, lawful_plans, orders, shapes};
+use compare::board::{is_lead, leads, Boards};
 use compare::choice::{self, Choice};
 use compare::held::Held;
 use compare::make::made;
@@ -14,7 +15,7 @@ use compare::rack::Rack;
 use compare::random::Random;
 use compare::steps::{self, Step};
 use compare::totals::{accepted, direct_sums, printed, Campaign};
-use compare::{board, price, search};
+use compare::{price, search};
 
 /// Cells past the shares show that no step writes beyond the work area.
 const SPARE: usize = 3;
@@ -62,13 +63,14 @@ fn check_held(plan: &Plan, steps: &[Step]) {
 
 /// Held a second way: a running account of what each step forms and gives up.
 fn account(plan: &Plan, steps: &[Step], board: u64) -> Vec<u64> {
+    let boards = Boards::new(plan);
     let mut holds = BTreeMap::new();
     let mut account = vec![0];
     for &step in steps {
         match step {
-            Step::Expand(parent) if board::is_lead(plan, board, parent) => {
+            Step::Expand(parent) if is_lead(plan, board, parent) => {
                 for child in children(plan, parent) {
-                    holds.insert(child, board::cells(plan, board, child));
+                    holds.insert(child, boards.cells(board, child));
                 }
             }
             Step::Finish(choice) => drop(holds.remove(&choice)),
@@ -99,17 +101,18 @@ fn check_run(plan: &Plan, steps: &[Step], random: &mut Random) {
 
 /// A step writes the cells of the choices that it forms or adds to, no others.
 fn check_writes(plan: &Plan, step: Step, before: &[i64], after: &[i64]) {
+    let boards = Boards::new(plan);
     let mut may_change = vec![false; before.len()];
     match step {
         Step::Expand(parent) => {
             for child in children(plan, parent) {
-                for board in board::leads(plan, parent) {
-                    may_change[board::place(plan, board, child)].fill(true);
+                for board in leads(plan, parent) {
+                    may_change[boards.place(board, child)].fill(true);
                 }
             }
         }
         Step::Transfer(transfer) => {
-            may_change[board::place(plan, transfer.receiver, transfer.choice)].fill(true);
+            may_change[boards.place(transfer.receiver, transfer.choice)].fill(true);
         }
         Step::Finish(_) => {}
     }

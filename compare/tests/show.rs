@@ -26,7 +26,7 @@ plan
 
 axes, in plan order
   axis  length  portions  positions of a portion
-     1       3         2  1 or 2
+     1       3         2  2 in the first, then 1
      0       2         1  2
 
 grand total 5
@@ -68,6 +68,21 @@ fn the_worked_example() {
     let answer = compare_on(&["show"], WORKED.as_bytes());
     assert_eq!(text(&answer.output), WORKED_SHOWN);
     assert!(answer.errors.is_empty() && answer.status.success());
+}
+
+/// Axis 0 comes out even, the others by one position and by three.
+#[test]
+fn longer_portions_come_first() {
+    let axes = "\
+axes, in plan order
+  axis  length  portions  positions of a portion
+     2       7         4  2 in the first 3, then 1
+     1       5         4  2 in the first, then 1
+     0       4         4  1
+     3       2         1  2
+";
+    let report = printed(&[4, 5, 7, 2], 6, &[1; 280]);
+    assert!(shown(&report).contains(axes), "{}", shown(&report));
 }
 
 /// Two sides, rows and columns of 100s, 10s and 1s tell which point went where.

@@ -3,23 +3,39 @@
 
 use std::mem::size_of;
 
+use compare::board::Boards;
 use compare::choice::Choice;
+use compare::held::Held;
 use compare::plan::Plan;
+use compare::portions::{dealt, Rule};
 use compare::rack::Rack;
 use compare::steps::{self, Step};
 
 use crate::slots::told;
 
-/// A lawful plan with its list of steps.
+/// A lawful plan with the rule for its portions and its list of steps.
 pub struct Engine {
     pub plan: Plan,
     pub steps: Vec<Step>,
+    rule: Rule,
 }
 
 impl Engine {
     pub fn new(plan: Plan) -> Engine {
-        let steps = steps::list(&plan);
-        Engine { plan, steps }
+        Engine::cut_by(dealt, plan)
+    }
+
+    pub fn cut_by(rule: Rule, plan: Plan) -> Engine {
+        let steps = steps::list_on(&Boards::cut_by(rule, &plan));
+        Engine { plan, steps, rule }
+    }
+
+    pub fn boards(&self) -> Boards<'_> {
+        Boards::cut_by(self.rule, &self.plan)
+    }
+
+    pub fn held(&self) -> Held<'_> {
+        Held::on(self.boards(), &self.steps)
     }
 
     pub fn total(&self) -> u64 {
@@ -52,7 +68,7 @@ impl Engine {
         }
         let step = self.steps.get(*position as usize);
         if let Some(&step) = step {
-            let mut rack = Rack::new(&self.plan, array, work.to_vec());
+            let mut rack = Rack::on(self.boards(), array, work.to_vec());
             rack.take(step);
             work.copy_from_slice(&rack.work);
             *position += 1;
@@ -94,6 +110,6 @@ impl Engine {
 
     /// Views and gathers read no points.
     fn rack(&self, work: &[i64]) -> Rack<'_> {
-        Rack::new(&self.plan, &[], work.to_vec())
+        Rack::on(self.boards(), &[], work.to_vec())
     }
 }

@@ -5,6 +5,7 @@ use std::slice;
 
 use crate::faults::{miscount, mislink, mismark, misplan, spoil, told, told_with, Entry, Part};
 use crate::links::FOUND;
+use crate::miscut::{self, miscut};
 use crate::misread::heard;
 use crate::plans::{IDLE, MADE};
 use crate::slots::{SLOTS, SMALL};
@@ -245,12 +246,18 @@ pub fn step_count(plan: Slices, count: &mut [u64]) -> u8 {
 }
 
 pub fn step_at(plan: Slices, position: u64, step: &mut [u64]) -> u8 {
+    if let Some(engine) = miscut(Entry::StepAt, plan) {
+        return miscut::step_at(&engine, position, step);
+    }
     let answer = of_plan!(campaign_step_at, plan, position, step.as_mut_ptr(), step.len());
     spoil(Entry::StepAt, answer, Part::Result, step);
     told(Entry::StepAt, answer)
 }
 
 pub fn held(plan: Slices, position: u64, board: u32, cells: &mut [u64]) -> u8 {
+    if let Some(engine) = miscut(Entry::Held, plan) {
+        return miscut::held(&engine, position, board, cells);
+    }
     let answer = of_plan!(campaign_held, plan, position, board, cells.as_mut_ptr(), cells.len());
     spoil(Entry::Held, answer, Part::Result, cells);
     told(Entry::Held, answer)
@@ -263,6 +270,9 @@ pub fn step(
     position: &mut u64,
     step: &mut [u64],
 ) -> u8 {
+    if let Some(engine) = miscut(Entry::Step, plan) {
+        return miscut::step(&engine, array, work, position, step);
+    }
     let (array_ptr, work_ptr) = (array.as_ptr(), work.as_mut_ptr());
     let answer = of_plan!(
         campaign_step,
@@ -282,6 +292,9 @@ pub fn step(
 }
 
 pub fn view(plan: Slices, work: &[i64], position: u64, board: u32, part: &mut [u64]) -> u8 {
+    if let Some(engine) = miscut(Entry::View, plan) {
+        return miscut::view(&engine, work, position, board, part);
+    }
     let answer = of_plan!(
         campaign_view,
         plan,
@@ -297,6 +310,9 @@ pub fn view(plan: Slices, work: &[i64], position: u64, board: u32, part: &mut [u
 }
 
 pub fn gather(plan: Slices, work: &[i64], position: u64, result: &mut [i64]) -> u8 {
+    if let Some(engine) = miscut(Entry::Gather, plan) {
+        return miscut::gather(&engine, work, position, result);
+    }
     let answer = of_plan!(
         campaign_gather,
         plan,

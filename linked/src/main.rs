@@ -7,11 +7,13 @@ mod library;
 mod links;
 mod marks;
 mod memory;
+mod miscut;
 mod mislink;
 mod mismark;
 mod misplan;
 mod misread;
 mod plans;
+mod portions;
 mod readings;
 mod runs;
 mod selftest;
@@ -35,6 +37,7 @@ usage: linked plans SEED N      compare planning on every small shape, N random 
        linked marks SEED N      compare whether an order adds up the fewest cells: every order of small shapes, N random plans
        linked links SEED N      compare searches over links that cost unequally: small shapes with every p, N random ones and every refusal
        linked memory SEED N     compare step, view and gather on lent memory: every small plan, N random plans, large ones and every refusal
+       linked portions          compare every length up to 64 with every exponent, as each axis of small campaigns: steps, held, memory, totals
        linked selftest          plant faults between the library and each comparison, which must see them
        linked bench             time planning, pricing, searches, reading, steps and whole runs, proved and independent, in one run
 ";
@@ -61,6 +64,7 @@ fn main() -> ExitCode {
         ["memory", seed, n] => {
             seed.parse().ok().zip(n.parse().ok()).map(|(s, n)| memory::check(s, n))
         }
+        ["portions"] => Some(portions::check()),
         ["readings"] => Some(readings::check()),
         ["readings", "all"] => return ExitCode::from(u8::from(readings::all() > 0)),
         ["selftest"] => Some(selftest::check()),

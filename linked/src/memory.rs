@@ -3,6 +3,7 @@
 
 use std::hint::black_box;
 
+use compare::choice::Choice;
 use compare::plan::{planned, Plan};
 use compare::random::Random;
 use compare::steps::Step;
@@ -17,11 +18,11 @@ use crate::slots::{judged, spelled, told, Slots};
 use crate::{watched, Count};
 
 /// Cells of a step's answer.
-const TOLD: usize = 5;
+pub const TOLD: usize = 5;
 
 /// How long a lent result is: as long as is due, or one cell more or less.
 #[derive(Clone, Copy)]
-enum Fit {
+pub enum Fit {
     Right,
     Short,
     Long,
@@ -30,8 +31,8 @@ enum Fit {
 const FITS: [Fit; 3] = [Fit::Right, Fit::Short, Fit::Long];
 
 /// A plan as it is lent, with the independent engine on it or the plan's refusal.
-struct Lent {
-    slots: Slots,
+pub struct Lent {
+    pub slots: Slots,
     engine: Result<Engine, u8>,
 }
 
@@ -41,11 +42,11 @@ impl Lent {
         Lent { slots, engine }
     }
 
-    fn of(plan: &Plan) -> Lent {
+    pub fn of(plan: &Plan) -> Lent {
         Lent::new(spelled(plan))
     }
 
-    fn engine(&self) -> &Engine {
+    pub fn engine(&self) -> &Engine {
         self.engine.as_ref().expect("a lawful plan")
     }
 
@@ -55,7 +56,7 @@ impl Lent {
 
     /// A step that tells its answer in a slice of some length: that slice, the work area and
     /// the position. Gives the refusal, or 0.
-    fn step(
+    pub fn step(
         &self,
         count: &mut Count,
         array: &[i32],
@@ -91,7 +92,7 @@ impl Lent {
         answer
     }
 
-    fn view(&self, count: &mut Count, work: &[i64], position: u64, board: u32, fit: Fit) -> u8 {
+    pub fn view(&self, count: &mut Count, work: &[i64], position: u64, board: u32, fit: Fit) -> u8 {
         let due = self.due(|engine| engine.view(work, position, board)).map(|part| part.to_vec());
         let call = |part: &mut [u64]| watched::view(&self.slots, work, position, board, part);
         let what = || format!("view of board {board} at {position} of {:?}", self.slots);
@@ -103,6 +104,21 @@ impl Lent {
         let call = |result: &mut [i64]| watched::gather(&self.slots, work, position, result);
         let what = || format!("gather at {position} of {:?}", self.slots);
         shown(count, due, fit, call, what)
+    }
+
+    /// A finished choice beside its direct sums.
+    pub fn totals(
+        &self,
+        count: &mut Count,
+        array: &[i32],
+        work: &[i64],
+        position: u64,
+        choice: Choice,
+    ) {
+        let sums = direct_sums(&self.engine().plan.lengths, array, choice);
+        let call = |result: &mut [i64]| watched::gather(&self.slots, work, position, result);
+        let what = || format!("totals of {choice} at {position} of {:?}", self.slots);
+        shown(count, Ok(sums), Fit::Right, call, what);
     }
 }
 
@@ -139,7 +155,7 @@ fn shown<T: Lend>(
 }
 
 /// Any points, now and then all of them at an end of their range.
-fn any_array(random: &mut Random, points: usize) -> Vec<i32> {
+pub fn any_array(random: &mut Random, points: usize) -> Vec<i32> {
     match random.below(16) {
         0 => vec![i32::MIN; points],
         1 => vec![i32::MAX; points],
@@ -148,7 +164,7 @@ fn any_array(random: &mut Random, points: usize) -> Vec<i32> {
 }
 
 /// Cells of any contents.
-fn foreign(random: &mut Random, cells: usize) -> Vec<i64> {
+pub fn foreign(random: &mut Random, cells: usize) -> Vec<i64> {
     (0..cells).map(|_| random.next() as i64).collect()
 }
 
@@ -238,10 +254,7 @@ fn whole(count: &mut Count, random: &mut Random, plan: &Plan) {
         }
         show(count, random, &lent, &work, position);
         if let Step::Finish(choice) = *step {
-            let sums = direct_sums(&plan.lengths, &array, choice);
-            let call = |result: &mut [i64]| watched::gather(&lent.slots, &work, position, result);
-            let what = || format!("totals of {choice} at {position} of {plan:?}");
-            shown(count, Ok(sums), Fit::Right, call, what);
+            lent.totals(count, &array, &work, position, choice);
         }
     }
     let total = engine.total();

@@ -1,12 +1,14 @@
 //! Faults planted between the library and each comparison: every one must be seen.
 
 use crate::faults::{plant, Change, Entry, Fault, Miscount, Part, When};
+use crate::miscut::{self, Miscut};
 use crate::mislink::Mislink;
 use crate::mismark::Mismark;
 use crate::misplan::Misplan;
 use crate::misread::{self, Misreading};
-use crate::{links, marks, memory, plans, readings, steps, tapes, Count};
+use crate::{links, marks, memory, plans, portions, readings, steps, tapes, Count};
 use compare::links::wrong::Wrong;
+use compare::portions::wrong::Wrong as WrongRule;
 
 /// A comparison with its seed, and how much of it is run.
 type Loop = (fn(u64, u64) -> Count, u64, u64);
@@ -127,6 +129,7 @@ pub fn check() -> Count {
     misplans(&mut count);
     mismarks(&mut count);
     mislinks(&mut count);
+    miscuts(&mut count);
     offences(&mut count);
     slices(&mut count);
     miscounts(&mut count);
@@ -230,6 +233,30 @@ fn mislinks(count: &mut Count) {
             changes.push(Change::ResultFirst);
         }
         try_all(count, entry, When::By(number), UNSEARCHED, changes);
+    }
+}
+
+/// What compares portions: an axis of six points, with two more than come out even in four.
+const CUT: Loop = (portions::of_length, 7, 6);
+
+/// Wrong rules for portions, in one entry and in all at once. Besides these, every cell and answer
+/// of the entries that list steps and run them.
+fn miscuts(count: &mut Count) {
+    let (compare, seed, length) = CUT;
+    let entries = miscut::ENTRIES.map(Some).into_iter().chain([None]);
+    for entry in entries {
+        for wrong in WrongRule::ALL {
+            miscut::plant(Some(Miscut { wrong, entry }));
+            let seen = compare(seed, length).failed > 0;
+            miscut::plant(None);
+            count.note(seen, || format!("{wrong:?} of {entry:?} is not seen"));
+        }
+    }
+    let listing = [Entry::Price, Entry::StepCount];
+    for trial in &TRIALS {
+        if listing.contains(&trial.entry) || miscut::ENTRIES.contains(&trial.entry) {
+            try_all(count, trial.entry, When::Taken, CUT, changes(trial));
+        }
     }
 }
 

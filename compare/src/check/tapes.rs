@@ -7,6 +7,7 @@ use super::patience::Patience;
 use super::threads;
 use super::Case;
 use crate::make::{made, Made};
+use crate::pieces::Pieces;
 use crate::spell;
 use crate::tape::Run;
 use crate::totals;
@@ -33,11 +34,16 @@ impl Checked<'_> {
         let Made { kind, tape, .. } = made(self.seed, index);
         let pieces = handed::pieces(self.seed, index, &tape);
         let name = format!("seed {}, tape {index} ({kind}), pieces {}", self.seed, pieces.count());
-        let fault = match handed::answer(self.program, self.patience, pieces) {
-            Ok(answer) => difference(&totals::printed(&tape), &answer),
-            Err(fault) => Some(fault),
-        };
+        let fault = fault(self.program, self.patience, &tape, pieces);
         (Case { name, fault }, Outcome::of(&tape))
+    }
+}
+
+/// What is wrong with a program's answer to a tape that comes in these pieces.
+pub fn fault(program: &str, patience: &Patience, tape: &[u8], pieces: Pieces) -> Option<String> {
+    match handed::answer(program, patience, pieces) {
+        Ok(answer) => difference(&totals::printed(tape), &answer),
+        Err(fault) => Some(fault),
     }
 }
 

@@ -1,5 +1,5 @@
 -- The definitions of this layer, computed on small campaigns that are none of P1 to P10; the numbers are those of compare/.
-use Prim.Native.Nat.{ℕ, zero, suc, _^_, _<_, _≤_}
+use Prim.Native.Nat.{ℕ, zero, suc, _-_, _^_, _<_, _≤_}
 use mathlib.Core.Path.{_≡_, refl}
 use mathlib.Core.Bool.{Bool, true, false}
 use mathlib.Core.List.{List, [], _∷_}
@@ -11,10 +11,11 @@ use Rattle.cube_spec.specs.Limits.{padded}
 use Rattle.cube_spec.specs.Bytes.{little}
 use Rattle.cube_spec.specs.Boxes.{pick, table, product, place, position, put}
 use Rattle.cube_spec.specs.Choices.{keeps, fullMask, withoutMask, withMask, grandMask, cells, points, totals}
-use Rattle.cube_spec.specs.Portions.{portionStart, ceiling}
+use Rattle.cube_spec.specs.Portions.{portionExtent, portionStart, ceiling}
 use Rattle.cube_spec.specs.Tree.{has, children, overSets, moved, added, weight, weighted, regionSize, regionStart, shareSize, stepCount}
 use Rattle.cube_spec.specs.Ways.{Way, Division, movedBy, addedBy, log2, room}
 use Rattle.cube_spec.specs.Checks.{check, first, answered, gives, refuses, Reply}
+use Rattle.cube_spec.proofs.Listed.{Cut, divided, tiled, longest, empty-ones}
 
 abbrev at : List ℕ → ℕ → ℕ
 at l i = getD l i 0
@@ -58,13 +59,37 @@ totals-of = refl
 
 -- ---- portions: 5 in 2, and 7 in 4
 
-portions : (table 3 (portionStart 5 2) ≡ 0 ∷ 2 ∷ 5 ∷ [])
-    × (table 5 (portionStart 7 4) ≡ 0 ∷ 1 ∷ 3 ∷ 5 ∷ 7 ∷ [])
+portions : (table 3 (portionStart 5 2) ≡ 0 ∷ 3 ∷ 5 ∷ [])
+    × (table 5 (portionStart 7 4) ≡ 0 ∷ 2 ∷ 4 ∷ 6 ∷ 7 ∷ [])
     × (ceiling 5 2 ≡ 3)
     × (ceiling 7 4 ≡ 2)
     × (ceiling 8 4 ≡ 2)
 unfolding computing
 portions = (refl, refl, refl, refl, refl)
+
+-- the points of each portion of the axes that compare cuts, as the starts tell them and as the rule does
+unfoldable starts-apart : List Cut → List (List ℕ)
+starts-apart [] = []
+starts-apart (c ∷ r) = (let m = length (c .portions) in table m (λ l. portionStart (c .length) m (suc l) - portionStart (c .length) m l)) ∷ starts-apart r
+
+unfoldable by-rule : List Cut → List (List ℕ)
+by-rule [] = []
+by-rule (c ∷ r) = table (length (c .portions)) (portionExtent (c .length) (length (c .portions))) ∷ by-rule r
+
+unfoldable listed : List Cut → List (List ℕ)
+listed [] = []
+listed (c ∷ r) = c .portions ∷ listed r
+
+cuts : (starts-apart divided ≡ listed divided)
+    × (starts-apart tiled ≡ listed tiled)
+    × (starts-apart longest ≡ listed longest)
+    × (starts-apart empty-ones ≡ listed empty-ones)
+    × (by-rule divided ≡ listed divided)
+    × (by-rule tiled ≡ listed tiled)
+    × (by-rule longest ≡ listed longest)
+    × (by-rule empty-ones ≡ listed empty-ones)
+unfolding computing starts-apart by-rule listed divided tiled longest empty-ones
+cuts = (refl, refl, refl, refl, refl, refl, refl, refl)
 
 -- ---- the tree
 

@@ -6,8 +6,10 @@ pub mod Sets
 pub mod Weights
 pub mod Powers
 pub mod Portions
+pub mod Before
 pub mod Digits
 pub mod Counting
+pub mod Listed
 pub mod Cases
 pub mod Tables
 pub mod Slots

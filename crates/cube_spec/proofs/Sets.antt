@@ -6,10 +6,10 @@ use mathlib.Core.List.{List, [], _∷_}
 use native.Mathlib.Omega.{arith}
 use borrow.Author.Tests.{eqb-true, eqb-false, eq-eqb, ne-eqb}
 use lib.Dec.{eqb}
-use Rattle.cube_spec.specs.Boxes.{product}
+use Rattle.cube_spec.specs.Boxes.{product, sumN}
 use Rattle.cube_spec.specs.Tree.{has, kept, overSetsFrom}
 use Rattle.cube_spec.proofs.Sums.{by}
-use Rattle.cube_spec.proofs.Naturals.{clash}
+use Rattle.cube_spec.proofs.Naturals.{clash, sumN-zero, sumN-add}
 
 pub has-head : (j : ℕ) (Y : List ℕ) → has (j ∷ Y) j ≡ true
 unfolding has
@@ -61,3 +61,24 @@ unfolding overSetsFrom
 over-cong F G zero d n Y e h same = refl
 over-cong F G (suc m) d n Y e h same =
     ap₂ _+_ (over-cong F G m (d + 1) n Y (omega arith) (down-up Y d (d + 1) (omega arith) h) same) (ap₂ _+_ (same (d ∷ Y) (omega arith, h)) (over-cong F G m (d + 1) n (d ∷ Y) (omega arith) (omega arith, h) same))
+
+pub over-le : (F G : List ℕ → ℕ) (m d n : ℕ) (Y : List ℕ) → d + m ≡ n → Down Y d → ((Z : List ℕ) → Down Z n → F Z ≤ G Z) → overSetsFrom F m d Y ≤ overSetsFrom G m d Y
+unfolding overSetsFrom
+over-le F G zero d n Y e h less = omega arith
+over-le F G (suc m) d n Y e h less =
+    let p = over-le F G m (d + 1) n Y (omega arith) (down-up Y d (d + 1) (omega arith) h) less in
+    let l : d < n = omega arith in
+    let q = less (d ∷ Y) (l, h) in
+    let r = over-le F G m (d + 1) n (d ∷ Y) (omega arith) (omega arith, h) less in
+    omega arith
+
+-- and added up for each of some numbers
+pub over-sum : (F : ℕ → List ℕ → ℕ) (k m d : ℕ) (Y : List ℕ) → sumN k (λ b. overSetsFrom (F b) m d Y) ≡ overSetsFrom (λ Z. sumN k (λ b. F b Z)) m d Y
+unfolding overSetsFrom
+over-sum F k zero d Y = sumN-zero k
+over-sum F k (suc m) d Y =
+    let p = over-sum F k m (d + 1) Y in
+    let q = over-sum F k m (d + 1) (d ∷ Y) in
+    let r = sumN-add k (λ b. overSetsFrom (F b) m (d + 1) Y) (λ b. F b (d ∷ Y) + overSetsFrom (F b) m (d + 1) (d ∷ Y)) in
+    let s = sumN-add k (λ b. F b (d ∷ Y)) (λ b. overSetsFrom (F b) m (d + 1) (d ∷ Y)) in
+    omega arith

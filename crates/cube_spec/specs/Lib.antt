@@ -3,6 +3,7 @@ pub mod Bytes
 pub mod Boxes
 pub mod Choices
 pub mod Portions
+pub mod Before
 pub mod Tree
 pub mod Ways
 pub mod Checks

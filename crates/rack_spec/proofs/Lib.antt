@@ -7,6 +7,8 @@ pub mod Masks
 pub mod Moving
 pub mod Counting
 pub mod Divided
+pub mod Spread
+pub mod Recut
 pub mod Tallies
 pub mod Tallied
 pub mod Planned
@@ -22,6 +24,7 @@ pub mod Cases
 pub mod Begun
 pub mod Alive
 pub mod Holding
+pub mod Falling
 pub mod Claim
 pub mod Around
 pub mod Ordering

@@ -63,7 +63,7 @@ module _ (g : Grid) (ok : Lawful g) where
       factor i t = unfold box kept extent in by (has Z i) (λ s. rw (s, eq-eqb (label g b i) 0 (lead-each Z b i t s))) (λ s. rw s)
 
   -- portions make up an axis
-  extents-sum : (i : ℕ) → i < g .axes → (n : ℕ) → n ≤ g .parts i → sumN n (λ l. g .start i (suc l) - g .start i l) ≡ g .start i n
+  pub extents-sum : (i : ℕ) → i < g .axes → (n : ℕ) → n ≤ g .parts i → sumN n (λ l. g .start i (suc l) - g .start i l) ≡ g .start i n
   unfolding sumN
   extents-sum i r zero h = sym (ok .first i r)
   extents-sum i r (suc n) h = let p = extents-sum i r n (omega arith) in let q = ok .rising i n r h in omega arith
@@ -122,16 +122,15 @@ module _ (g : Grid) (ok : Lawful g) where
   values-walk (suc m) d Y e h =
       values-append (walk g m (d + 1) Y) _ ∙ ap₂ _+_ (values-walk m (d + 1) Y (omega arith) (down-up Y d (d + 1) (omega arith) h)) (values-append (transfers g (d ∷ Y) (boards g)) _ ∙ ap₂ _+_ (values-transfers Y d (omega arith, h)) (values-visit (d ∷ Y) m (walk g m (d + 1) (d ∷ Y)) ∙ values-walk m (d + 1) (d ∷ Y) (omega arith) (omega arith, h)))
 
+  pub values-steps : values (steps g) ≡ overSetsFrom (λ Z. (g .parts (lastOf Z) - 1) * product (kept Z (g .len)) (g .axes) 0) (g .axes) 0 []
+  values-steps = start ∙ values-walk (g .axes) 0 [] (zero-add (g .axes)) tt
+    where
+      start : values (steps g) ≡ values (walk g (g .axes) 0 [])
+      start = unfold steps values in zero-add _
+
 -- THE VALUES MOVED. The transfers of the whole list move as many values as the price says.
 pub values-moved : (a : PlanLists) → Sound a → values (steps (gridOf a)) ≡ moved a
-values-moved a ok =
-    start ∙ values-walk g (grid-lawful a ok) (g .axes) 0 [] (zero-add (g .axes)) tt ∙ same
+values-moved a ok = values-steps (gridOf a) (grid-lawful a ok) ∙ same
   where
-    g : Grid
-    g = gridOf a
-
-    start : values (steps (gridOf a)) ≡ values (walk (gridOf a) ((gridOf a) .axes) 0 [])
-    start = unfold steps values in zero-add _
-
     same : overSetsFrom (λ Z. ((gridOf a) .parts (lastOf Z) - 1) * product (kept Z ((gridOf a) .len)) ((gridOf a) .axes) 0) ((gridOf a) .axes) 0 [] ≡ moved a
     same = unfold gridOf moved Tree.moved choiceCells sent in over-cong _ _ (length (a .lengths)) 0 (length (a .lengths)) [] (zero-add _) tt (λ Z h. mul-comm _ _)

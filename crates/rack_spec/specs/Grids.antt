@@ -36,7 +36,7 @@ gridOf a =
       rank = λ d. find d (a .order);
     }
 
--- What the proofs know of a grid; how portions are cut plays no part beyond this.
+-- What the proofs know of a grid; how portions are cut plays no part beyond this, but where longer ones are said to come first (`Falling`).
 pub record Lawful (g : Grid) : Type 0 where
   pub some : (d : ℕ) → d < g .axes → 0 < g .parts d
   pub first : (d : ℕ) → d < g .axes → g .start d 0 ≡ 0

@@ -2,6 +2,7 @@ pub mod Grids
 pub mod Pointed
 pub mod Steps
 pub mod Held
+pub mod Recut
 pub mod Counts
 pub mod Finding
 pub mod Answers

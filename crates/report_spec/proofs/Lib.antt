@@ -1,3 +1,4 @@
+pub mod Recut
 pub mod Tapes
 pub mod Cases
 pub mod Paper

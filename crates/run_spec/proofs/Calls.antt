@@ -9,7 +9,7 @@ use Rattle.rack_spec.specs.Answers.{expands, transfers, finishes, done, refused
 use Rattle.run_spec.specs.Computing.{computing}
 use Rattle.run_spec.specs.Entries.{outcome, stepRefusal, stepping, viewRefusal, viewing, gatherRefusal, gathering}
 
--- T is 6, the array has 15 points, a share 6 cells, the work area 12; board 0 has two positions of axis 1, board 1 three
+-- T is 6, the array has 15 points, a share 6 cells, the work area 12; board 0 has three positions of axis 1, board 1 two
 plan : ℕ → Plan
 plan p = record { axes = 2; lengths = 3 ∷ 5 ∷ replicate 6 0; order = 1 ∷ 0 ∷ replicate 6 0; exponents = 0 ∷ 1 ∷ replicate 6 0; p = p }
 
@@ -19,22 +19,22 @@ array =
     ∷ negsuc 5 ∷ pos 7 ∷ negsuc 7 ∷ pos 9 ∷ pos 10
     ∷ pos 11 ∷ pos 12 ∷ negsuc 12 ∷ pos 14 ∷ negsuc 15 ∷ []
 
--- as after the first step: board 0's share has choice 1's three cells, choice 2's two and one that no step writes, board 1's has three of each
+-- as after the first step: board 0's share has three cells of choice 1 and of choice 2, board 1's has three, two and one that no step writes
 work : List ℤ
 work =
-    negsuc 0 ∷ pos 1 ∷ pos 23 ∷ pos 6 ∷ pos 17 ∷ pos 13
-    ∷ pos 12 ∷ pos 11 ∷ negsuc 14 ∷ negsuc 17 ∷ pos 27 ∷ negsuc 0 ∷ []
+    pos 2 ∷ negsuc 6 ∷ pos 10 ∷ pos 6 ∷ pos 17 ∷ negsuc 17
+    ∷ pos 9 ∷ pos 19 ∷ negsuc 1 ∷ pos 27 ∷ negsuc 0 ∷ pos 13 ∷ []
 
 -- what the first step leaves of cells that held 77, and the third of `work`
 formed : List ℤ
 formed =
-    negsuc 0 ∷ pos 1 ∷ pos 23 ∷ pos 6 ∷ pos 17 ∷ pos 77
-    ∷ pos 12 ∷ pos 11 ∷ negsuc 14 ∷ negsuc 17 ∷ pos 27 ∷ negsuc 0 ∷ pos 77 ∷ []
+    pos 2 ∷ negsuc 6 ∷ pos 10 ∷ pos 6 ∷ pos 17 ∷ negsuc 17
+    ∷ pos 9 ∷ pos 19 ∷ negsuc 1 ∷ pos 27 ∷ negsuc 0 ∷ pos 77 ∷ pos 77 ∷ []
 
 added : List ℤ
 added =
-    pos 11 ∷ pos 12 ∷ pos 8 ∷ pos 6 ∷ pos 17 ∷ pos 13
-    ∷ pos 12 ∷ pos 11 ∷ negsuc 14 ∷ negsuc 17 ∷ pos 27 ∷ negsuc 0 ∷ []
+    pos 11 ∷ pos 12 ∷ pos 8 ∷ pos 6 ∷ pos 17 ∷ negsuc 17
+    ∷ pos 9 ∷ pos 19 ∷ negsuc 1 ∷ pos 27 ∷ negsuc 0 ∷ pos 13 ∷ []
 
 -- the points, the work area and the position are judged in this order, after the plan
 steps-refused : (stepRefusal (plan 2) 14 11 7 ≡ 9)
@@ -63,9 +63,9 @@ views : (viewRefusal (plan 1) 11 7 2 ≡ 11)
     × (viewRefusal (plan 1) 12 2 2 ≡ 12)
     × (viewRefusal (plan 1) 12 2 1 ≡ 0)
     × (viewRefusal (plan 1) 12 6 1 ≡ 0)
-    × (viewing (plan 1) work 2 0 ≡ (pos 6 ∷ pos 17 ∷ []))
-    × (viewing (plan 1) work 2 1 ≡ (negsuc 17 ∷ pos 27 ∷ negsuc 0 ∷ []))
-    × (viewing (plan 1) work 6 0 ≡ (negsuc 0 ∷ pos 1 ∷ pos 23 ∷ []))
+    × (viewing (plan 1) work 2 0 ≡ (pos 6 ∷ pos 17 ∷ negsuc 17 ∷ []))
+    × (viewing (plan 1) work 2 1 ≡ (pos 27 ∷ negsuc 0 ∷ []))
+    × (viewing (plan 1) work 6 0 ≡ (pos 2 ∷ negsuc 6 ∷ pos 10 ∷ []))
     × (viewing (plan 1) work 6 1 ≡ [])
     × (viewing (plan 1) work 3 0 ≡ [])
 unfolding computing plan work

@@ -169,7 +169,7 @@ module _ (a : PlanLists) (sound : Sound a) (Y : List ℕ) where
     gathered-flat d r t = let s = (rw (kept-has (g .len) Y d t) at (gathered-lt c h d r)) in omega arith
 
     -- positions by place and back are the positions by axis
-    gathered-total : (array : ℕ → ℤ) → totalAt a array Y (gatheredPosition (a .lengths) g mask c) ≡ total (a .lengths) array mask (cellPosition (a .lengths) mask c)
+    pub gathered-total : (array : ℕ → ℤ) → totalAt a array Y (gatheredPosition (a .lengths) g mask c) ≡ total (a .lengths) array mask (cellPosition (a .lengths) mask c)
     unfolding totalAt gatheredPosition
     gathered-total array = total-cong (a .lengths) array mask _ _ (λ d r _. ap (cellPosition (a .lengths) mask c) (order-of-rank a sound d r))
 

@@ -7,6 +7,7 @@ pub mod Runs
 pub mod Lists
 pub mod Gathering
 pub mod Delivered
+pub mod Recut
 pub mod Loops
 pub mod Expanding
 pub mod Ranges

@@ -5,15 +5,12 @@ use Rattle.plan_portion.proofs.kept_portion.Reads as reads
 use Rattle.plan_portion.proofs.kept_portion.Lts as lts
 use Rattle.plan_portion.proofs.portion_of.Reads as portion-of-reads
 
--- src/lib.rt:33:9
 portion-of-requires : tie.Need-portion-of-requires
 portion-of-requires c κs = search needs
 
--- src/lib.rt:33:9
 returns : tie.Need-returns
 returns c = rw (c .before .if1 .taken) (c .portion-of .ensures)
 
--- src/lib.rt:28:1
 returns-2 : tie.Need-returns-2
 returns-2 c = search needs
 

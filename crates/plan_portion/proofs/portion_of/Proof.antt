@@ -1,36 +1,31 @@
 use Prim.Native.Nat.{_^_}
-use mathlib.Core.Path.{refl}
-use native.Mathlib.Numerals.{add-one}
+use mathlib.Core.Path.{sym}
+use native.Mathlib.Omega.{arith}
 use lib.Pow.{pow-pos}
-use Rattle.cube_spec.proofs.Portions.{portion-le}
+use Rattle.cube_spec.proofs.Portions.{extent-rule, rule-longer, rule-shorter}
 use borrow.Author.Needs.{needs}
 use Rattle.plan_portion.proofs.portion_of.Statement.{statement}
 use Rattle.plan_portion.proofs.portion_of.Tie as tie
 use Rattle.plan_portion.proofs.portion_of.Reads as reads
 use Rattle.plan_portion.proofs.portion_of.Lts as lts
-use Rattle.plan_portion.proofs.portion_start.Reads as portion-start-reads
+use Rattle.plan_portion.proofs.longer_of.Reads as longer-of-reads
+use Rattle.plan_portion.proofs.least_of.Reads as least-of-reads
 
--- src/lib.rt:22:40
-add-portion-start : tie.Need-add-portion-start
-add-portion-start c = search needs
-
--- src/lib.rt:22:9
-portion-start-requires : tie.Need-portion-start-requires
-portion-start-requires c κs = search needs
-
--- src/lib.rt:23:9
-portion-start-requires-2 : tie.Need-portion-start-requires-2
-portion-start-requires-2 c κs = search needs
-
--- src/lib.rt:24:5
-sub-result : tie.Need-sub-result
-sub-result c = let s = c .before .before in rw (c .portion-start2 .ensures, c .before .portion-start .ensures, add-one (s .args .l)) (portion-le (s .args .length) (2 ^ s .args .k) (pow-pos _) (s .args .l))
-
--- src/lib.rt:18:1
+-- one of the longer portions
 returns : tie.Need-returns
-returns c = let s = c .before .before in rw (c .portion-start2 .ensures, c .before .portion-start .ensures, add-one (s .args .l)) refl
+returns c =
+    let a = c .before .before .before .args in
+    let e = c .before .longer-of .ensures in
+    let t = c .if1 .taken in
+    rw (c .before .before .least-of .ensures .0, extent-rule (a .length) (2 ^ a .k) (pow-pos _) (a .l)) (sym (rule-longer (a .length) (2 ^ a .k) (pow-pos _) (a .l) (omega (arith, t))))
+
+-- one of the others
+returns-2 : tie.Need-returns-2
+returns-2 c =
+    let a = c .before .before .before .args in
+    let e = c .before .longer-of .ensures in
+    let t = c .if1 .left in
+    rw (c .before .before .least-of .ensures .0, extent-rule (a .length) (2 ^ a .k) (pow-pos _) (a .l)) (sym (rule-shorter (a .length) (2 ^ a .k) (pow-pos _) (a .l) (omega (arith, t))))
 
 pub portion-of-spec : {M : Type 1} → statement M
-portion-of-spec =
-    tie.close
-    (tie.spec add-portion-start portion-start-requires portion-start-requires-2 sub-result returns)
+portion-of-spec = tie.close (tie.spec (λ c κs. search needs) (λ c κs. search needs) (λ c. search needs) returns returns-2)
