@@ -1,7 +1,7 @@
 -- The definitions of this layer, computed on small campaigns that are none of P1 to P10; the numbers are those of compare/.
 use Prim.Native.Nat.{ℕ, zero, suc, _-_, _^_, _<_, _≤_}
 use mathlib.Core.Path.{_≡_, refl}
-use mathlib.Core.Bool.{Bool, true, false}
+use mathlib.Core.Bool.{true, false}
 use mathlib.Core.List.{List, [], _∷_}
 use native.Mathlib.Omega.{arith}
 use lib.ListN.{length, getD}
@@ -14,7 +14,7 @@ use Rattle.cube_spec.specs.Choices.{keeps, fullMask, withoutMask, withMa
 use Rattle.cube_spec.specs.Portions.{portionExtent, portionStart, ceiling}
 use Rattle.cube_spec.specs.Tree.{has, children, overSets, moved, added, weight, weighted, regionSize, regionStart, shareSize, stepCount}
 use Rattle.cube_spec.specs.Ways.{Way, Division, movedBy, addedBy, log2, room}
-use Rattle.cube_spec.specs.Checks.{check, first, answered, gives, refuses, Reply}
+use Rattle.cube_spec.specs.Checks.{check, first, answered, gives, refuses}
 use Rattle.cube_spec.proofs.Listed.{Cut, divided, tiled, longest, empty-ones}
 
 abbrev at : List ℕ → ℕ → ℕ

@@ -1,6 +1,6 @@
 -- The laws of the portion rule.
 use Prim.Native.Nat.{ℕ, zero, suc, _+_, _-_, _*_, _/_, _%_, _≤_, _<_, min}
-use mathlib.Core.Path.{_≡_, sym, _∙_, refl}
+use mathlib.Core.Path.{_≡_, sym, _∙_, refl, ap}
 use native.Mathlib.Nat.{zero-mul, suc-mul, one-mul, mul-comm, add-mul, eq-of-mul-eq-mul-right, div-add-mod', div-eq-of-lt-le, mod-lt, le-div-iff-mul-le}
 use native.Mathlib.Omega.{arith}
 use borrow.Author.Tests.{ltb-true, ltb-false, lt-ltb, le-ltb}
@@ -15,6 +15,23 @@ ones l n h = rw (lt-ltb l n h)
 
 none : (l n : ℕ) → n ≤ l → pick {A = ℕ} (ltb l n) 1 0 ≡ 0
 none l n h = rw (le-ltb l n h)
+
+-- the request's sentence, of any starts: from 0 to D, the first D mod m portions one point longer than the others, and these of as many points each
+pub record LongerFirst (D m others : ℕ) (start : ℕ → ℕ) : Type 0 where
+  pub first : start 0 ≡ 0
+  pub last : start m ≡ D
+  pub longer : (l : ℕ) → l < D % m → start (suc l) ≡ start l + (others + 1)
+  pub shorter : (l : ℕ) → D % m ≤ l → l < m → start (suc l) ≡ start l + others
+
+-- the points of l such portions, of which the first r have one more: up to portion n
+counted : (r others n : ℕ) (start : ℕ → ℕ) → start 0 ≡ 0 → ((l : ℕ) → l < r → start (suc l) ≡ start l + (others + 1)) → ((l : ℕ) → r ≤ l → l < n → start (suc l) ≡ start l + others) → (l : ℕ) → l ≤ n → start l ≡ l * others + min l r
+counted r others n start first longer shorter zero h = let z = zero-mul others in omega arith
+counted r others n start first longer shorter (suc l) h =
+    let c = counted r others n start first longer shorter l (omega arith) in
+    let s = suc-mul l others in
+    by (ltb l r)
+    (λ t. let y = ltb-true l r t in let q = longer l y in omega arith)
+    (λ t. let y = ltb-false l r t in let q = shorter l y h in omega arith)
 
 module _ (D P : ℕ) (some : 0 < P) where
   -- ---- the points of a portion
@@ -47,12 +64,10 @@ module _ (D P : ℕ) (some : 0 < P) where
 
   -- the points of l shorter portions, and one more for each longer one before portion l
   pub portion-start : (l : ℕ) → portionStart D P l ≡ l * (D / P) + min l (D % P)
-  portion-start zero = let f = portion-first in let z = zero-mul (D / P) in omega arith
-  portion-start (suc l) =
-      let n = portion-next l in
-      let c = portion-start l in
-      let s = suc-mul l (D / P) in
-      rule-by l (λ h e. omega arith) (λ h e. omega arith)
+  portion-start l = counted (D % P) (D / P) l (portionStart D P) portion-first (λ i h. next-by i (rule-longer i h)) (λ i h r. next-by i (rule-shorter i h)) l (omega arith)
+    where
+      next-by : (i : ℕ) {n : ℕ} → portionExtent D P i ≡ n → portionStart D P (suc i) ≡ portionStart D P i + n
+      next-by i e = portion-next i ∙ ap (λ n. portionStart D P i + n) e
 
   pub portion-last : portionStart D P P ≡ D
   portion-last =
@@ -123,22 +138,26 @@ module _ (D P : ℕ) (some : 0 < P) where
       starts zero h = omega arith
       starts (suc n) h = let q = h n (omega arith) in let r = starts n (λ l u. h l (omega arith)) in omega arith
 
-  -- ---- THE RULE ALONE: no other starts from 0 to D leave the first D mod P portions one point more than the others have, all of these alike
+  -- ---- THE RULE ALONE: these starts satisfy the sentence, and no others do
 
-  module _ (start : ℕ → ℕ) (others : ℕ) (first : start 0 ≡ 0) (last : start P ≡ D) (longer : (l : ℕ) → l < D % P → start (suc l) ≡ start l + (others + 1)) (shorter : (l : ℕ) → D % P ≤ l → l < P → start (suc l) ≡ start l + others) where
+  pub rule-holds : LongerFirst D P (D / P) (portionStart D P)
+  rule-holds =
+      record {
+        first = portion-first;
+        last = portion-last;
+        longer = λ l h. let n = portion-next l in let e = rule-longer l h in omega arith;
+        shorter = λ l h r. let n = portion-next l in let e = rule-shorter l h in omega arith;
+      }
+
+  module _ (start : ℕ → ℕ) (others : ℕ) (w : LongerFirst D P others start) where
     starts : (l : ℕ) → l ≤ P → start l ≡ l * others + min l (D % P)
-    starts zero h = let z = zero-mul others in omega arith
-    starts (suc l) h =
-        let c = starts l (omega arith) in
-        let s = suc-mul l others in
-        rule-by l
-        (λ r e. let n = longer l r in omega arith)
-        (λ r e. let n = shorter l r (omega arith) in omega arith)
+    starts = counted (D % P) others P start (w .first) (w .longer) (w .shorter)
 
     share : others ≡ D / P
     share =
         let r = mod-lt D some in
         let s = starts P (omega arith) in
+        let e = w .last in
         let d = div-add-mod' D P in
         let c = mul-comm P others in
         eq-of-mul-eq-mul-right P some others (D / P) (omega arith)

@@ -3,12 +3,12 @@ use Prim.Native.Nat.{ℕ, zero, suc, _+_, _-_, _*_, _≤_, _<_}
 use mathlib.Core.Path.{_≡_, sym, _∙_, refl, ap, ap₂}
 use mathlib.Core.Bool.{Bool, true, false}
 use mathlib.Core.List.{List, [], _∷_, _++_}
-use native.Mathlib.Nat.{zero-add, add-zero, add-suc, add-assoc, zero-mul, mul-zero, suc-mul, mul-add, add-mul, mul-comm}
+use native.Mathlib.Nat.{zero-add, add-zero, add-assoc, mul-zero, mul-comm}
 use native.Mathlib.Omega.{arith}
 use borrow.Author.Tests.{eqb-true, eqb-false, eq-eqb, ne-eqb}
 use lib.Dec.{eqb}
 use lib.ListN.{length}
-use Rattle.cube_spec.specs.Boxes.{pick, position, product, sumN}
+use Rattle.cube_spec.specs.Boxes.{pick, product, sumN}
 use Rattle.cube_spec.specs.Tree as Tree
 use Rattle.cube_spec.specs.Tree.{choiceCells, sent, has, kept, lastOf, overSetsFrom}
 use Rattle.rack_spec.specs.Grids.{gridOf, Grid, Lawful, boards, box, cells, extent, label, lead, withLabel}
@@ -16,7 +16,7 @@ use Rattle.rack_spec.specs.Steps.{TreeStep, each, finish, steps, sends, 
 use Rattle.cube_spec.proofs.Sums.{by}
 use Rattle.cube_spec.proofs.Boxing.{product-cong}
 use Rattle.cube_spec.proofs.Products.{product-zero, product-sum}
-use Rattle.cube_spec.proofs.Naturals.{both, clash, sumN-cong, sumN-times, sumN-same, sumN-first-only}
+use Rattle.cube_spec.proofs.Naturals.{both, sumN-cong, sumN-times, sumN-same, sumN-first-only}
 use Rattle.cube_spec.proofs.Sets.{Down, down-up, down-lt, over-cong}
 use Rattle.plan_spec.specs.Plans.{PlanLists, Sound, moved}
 use Rattle.rack_spec.proofs.Lawful.{grid-lawful}

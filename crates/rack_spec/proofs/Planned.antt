@@ -1,27 +1,26 @@
 -- An accepted plan's grid as the code reads it from the plan's slots, and boards by their labels.
-use Prim.Native.Nat.{ℕ, zero, suc, _+_, _-_, _*_, _/_, _%_, _^_, _≤_, _<_, min}
+use Prim.Native.Nat.{ℕ, zero, suc, _+_, _-_, _*_, _/_, _%_, _≤_, _<_, min}
 use mathlib.Core.Path.{_≡_, sym, _∙_, refl, ap, ap₂, fun-ext}
 use mathlib.Core.Bool.{Bool, true, false, _||_, not}
 use mathlib.Core.List.{List, [], _∷_}
-use native.Mathlib.Nat.{zero-add, sub-zero, add-zero, mul-one, one-mul, mul-comm, div-div-eq-div-mul, div-one, le-refl, mul-le-mul}
-use native.Mathlib.Numerals.{add-one}
+use native.Mathlib.Nat.{zero-add, sub-zero, one-mul, mul-comm, div-div-eq-div-mul, div-one, le-refl, mul-le-mul}
 use native.Mathlib.Omega.{arith}
 use lib.Dec.{eqb}
-use lib.ListN.{length, getD, take, set}
+use lib.ListN.{length, getD, set}
 use lib.Seq.{getD-take, getD-set-same, getD-set-other}
 use borrow.Author.Tests.{eqb-true, eqb-false, eq-eqb, ne-eqb}
 use Rattle.cube_spec.specs.Limits.{axisLimit, lengthLimit, pointLimit, padded}
-use Rattle.cube_spec.specs.Boxes.{pick, table, product, place, position}
+use Rattle.cube_spec.specs.Boxes.{table, product, place, position}
 use Rattle.cube_spec.specs.Choices.{keeps, fullMask, points, lengthOf}
 use Rattle.cube_spec.specs.Tree as Tree
 use Rattle.cube_spec.specs.Tree.{has, kept, next}
 use Rattle.cube_spec.proofs.Sums.{by}
 use Rattle.cube_spec.proofs.Naturals.{clash}
 use Rattle.cube_spec.proofs.Slots.{slots-table}
-use Rattle.cube_spec.proofs.Boxing.{product-cong, place-cong, place-lt, position-place, position-lt, place-position}
+use Rattle.cube_spec.proofs.Boxing.{place-cong, place-lt, position-place, position-lt, place-position}
 use Rattle.cube_spec.proofs.Products.{product-append, product-last, product-next, product-none, product-pos, product-le}
 use Rattle.cube_spec.proofs.Sets.{Down, down-up, down-lt, kept-has, kept-out}
-use Rattle.plan_spec.specs.Plans.{listsOf, lengthAt, mostAt}
+use Rattle.plan_spec.specs.Plans.{listsOf, mostAt}
 use Rattle.plan_spec.specs.declared.types.Plan.{Plan}
 use Rattle.plan_spec.specs.Accepted.{Accepted}
 use Rattle.plan_spec.proofs.Orders.{order-below, product-order}

@@ -1,3 +1,4 @@
+-- A shift by k is a power of two, and the quotient by it is at most the length.
 use Prim.Native.Nat.{_^_}
 use mathlib.Core.Path.{refl}
 use native.Mathlib.Nat.{div-le-self}
@@ -7,8 +8,6 @@ use Rattle.plan_spec.proofs.PricingLaws.{shifted}
 use borrow.Author.Needs.{needs}
 use Rattle.plan_portion.proofs.least_of.Statement.{statement}
 use Rattle.plan_portion.proofs.least_of.Tie as tie
-use Rattle.plan_portion.proofs.least_of.Reads as reads
-use Rattle.plan_portion.proofs.least_of.Lts as lts
 
 div-result : tie.Need-div-result
 div-result c =

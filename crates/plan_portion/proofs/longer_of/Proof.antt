@@ -1,3 +1,4 @@
+-- The remainder by the same power of two.
 use mathlib.Core.Path.{refl}
 use native.Mathlib.Omega.{arith}
 use lib.Pow.{pow-pos}
@@ -5,8 +6,6 @@ use Rattle.plan_spec.proofs.PricingLaws.{shifted}
 use borrow.Author.Needs.{needs}
 use Rattle.plan_portion.proofs.longer_of.Statement.{statement}
 use Rattle.plan_portion.proofs.longer_of.Tie as tie
-use Rattle.plan_portion.proofs.longer_of.Reads as reads
-use Rattle.plan_portion.proofs.longer_of.Lts as lts
 
 rem-result : tie.Need-rem-result
 rem-result c =

@@ -1,3 +1,4 @@
+-- By the rule's two laws: one position more below the number of longer portions, and none from there on.
 use Prim.Native.Nat.{_^_}
 use mathlib.Core.Path.{sym}
 use native.Mathlib.Omega.{arith}
@@ -6,10 +7,6 @@ use Rattle.cube_spec.proofs.Portions.{extent-rule, rule-longer, rule-shorter}
 use borrow.Author.Needs.{needs}
 use Rattle.plan_portion.proofs.portion_of.Statement.{statement}
 use Rattle.plan_portion.proofs.portion_of.Tie as tie
-use Rattle.plan_portion.proofs.portion_of.Reads as reads
-use Rattle.plan_portion.proofs.portion_of.Lts as lts
-use Rattle.plan_portion.proofs.longer_of.Reads as longer-of-reads
-use Rattle.plan_portion.proofs.least_of.Reads as least-of-reads
 
 -- one of the longer portions
 returns : tie.Need-returns

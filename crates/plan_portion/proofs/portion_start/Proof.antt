@@ -1,3 +1,4 @@
+-- The smaller of l and the number of longer portions is how many longer ones stand before; then the closed form of a start. All fits, since l is at most 1,024.
 use Prim.Native.Nat.{_*_, _^_, _≤_, min}
 use mathlib.Core.Path.{_≡_, sym}
 use mathlib.Core.Logic.{⊎-elim}
