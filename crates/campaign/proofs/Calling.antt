@@ -102,8 +102,8 @@ module _ (bytes : List ℕ) (p : ℕ) (idle : List ℕ) (a : Asked) (e : a ≡ a
   unfolding idle_refusal idling asked_refusal
   idle_given h r w er ew =
       let z : first (asked_checks bytes p) ≡ 0 = sym (pairing.refusal_is bytes p a e) ∙ h in
-      let i = ap (λ (n : ℕ). written_or r (n ∷ []) idle) (pairing.idle-is bytes p a e h) in
-      lending.passed (asked_checks bytes p) 1 idle (pairing.asked-numbered bytes p) z r _ w er (ew ∙ i)
+      let i = ap (λ (n : ℕ). written_or r (n ∷ []) idle) (pairing.idle_is bytes p a e h) in
+      lending.passed (asked_checks bytes p) 1 idle (pairing.asked_numbered bytes p) z r _ w er (ew ∙ i)
 
 -- ---- the entries, of the plan q in the slices
 

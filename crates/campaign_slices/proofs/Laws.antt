@@ -39,11 +39,11 @@ module _ (tape : List ℕ) (f : Scan) (e : f ≡ scanning tape) where
 
     pub wrong : (s : List ℕ) → (length s ≡ cells → ⊥) → (13 ≡ lent_scan_refusal tape (length s)) × (s ≡ lent_scan tape s)
     unfolding lent_scan_refusal lent_scan
-    wrong s l = lending.wrong-after (scan_checks tape) cells s (reading.numbered tape) none_due (cells_of (scanning tape)) l
+    wrong s l = lending.wrong_after (scan_checks tape) cells s (reading.numbered tape) none_due (cells_of (scanning tape)) l
 
     pub right : (s w : List ℕ) → length s ≡ cells → w ≡ cells_of f → (0 ≡ lent_scan_refusal tape (length s)) × (w ≡ lent_scan tape s)
     unfolding lent_scan_refusal lent_scan
-    right s w l q = lending.right-after (scan_checks tape) cells s (reading.numbered tape) none_due (cells_of (scanning tape)) l w (q ∙ ap cells_of e)
+    right s w l q = lending.right_after (scan_checks tape) cells s (reading.numbered tape) none_due (cells_of (scanning tape)) l w (q ∙ ap cells_of e)
 
   -- ---- opening: the refusal, the array and the cells
 
@@ -72,11 +72,11 @@ module _ (tape : List ℕ) (f : Scan) (e : f ≡ scanning tape) where
       pub open_wrong : (length s ≡ cells → ⊥) → Opens 13 a a s s
       unfolding open_refusal opened_array opened_scan
       open_wrong k =
-          let p = lending.wrong-after (reading_checks tape (length a)) cells s (reading.reading-numbered tape (length a)) none_read (cells_of (scanning tape)) k in
+          let p = lending.wrong_after (reading_checks tape (length a)) cells s (reading.reading_numbered tape (length a)) none_read (cells_of (scanning tape)) k in
           (p.0, sym (reading.left_alone _ _ a (λ z. let n : ◌≡◌ {A = ℕ} 13 0 = p.0 ∙ z in omega arith)), p.1)
 
       pub opens : (b : List ℤ) (w : List ℕ) → length s ≡ cells → b ≡ reading'.reading tape a → w ≡ cells_of f → Opens 0 a b s w
       unfolding open_refusal opened_array opened_scan reading_refusal
       opens b w k q c =
-          let p = lending.right-after (reading_checks tape (length a)) cells s (reading.reading-numbered tape (length a)) none_read (cells_of (scanning tape)) k w (c ∙ ap cells_of e) in
+          let p = lending.right_after (reading_checks tape (length a)) cells s (reading.reading_numbered tape (length a)) none_read (cells_of (scanning tape)) k w (c ∙ ap cells_of e) in
           (p.0, q ∙ sym (reading.fills tape a none_read) ∙ ap (λ n. filled_or n (or_empty (campaign tape)).points a) p.0, p.1)

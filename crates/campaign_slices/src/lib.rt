@@ -1,5 +1,7 @@
 // Plans, steps and numbers in slices that a caller in C lends. A plan comes in two: the axes, p, the order's slots and the exponents' in one,
 // the lengths' slots in the other.
+#![tactic(auto)]
+
 ghost use Rattle.std.specs.Prelude.{◌≡◌, [], ◌∷◌, ◌+◌, ◌≤◌, length, take, drop};
 ghost use Rattle.std.proofs.lemmas.List.Edits.{sets};
 ghost use Rattle.rack_spec.specs.Answers.{told};

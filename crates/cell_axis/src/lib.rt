@@ -1,4 +1,6 @@
 // One axis of cells that stand row-major, summed out.
+#![tactic(auto)]
+
 ghost use Rattle.std.specs.Prelude.{◌≡◌, ◌+◌, ◌*◌, ◌≤◌, ◌<◌, length};
 ghost use Rattle.cube_spec.specs.Boxes.{sum_z};
 ghost use Rattle.cell_spec.specs.Wrapped.{wrapped};

@@ -1,4 +1,6 @@
 // Copies of cells that stand side by side to the places of a box, through strides: how boards' cells are gathered.
+#![tactic(auto)]
+
 ghost use Rattle.std.specs.Prelude.{◌≡◌, ◌+◌, ◌*◌, ◌≤◌, ◌<◌, length};
 ghost use Rattle.cell_spec.specs.Rows.{from, placed, written};
 ghost use Rattle.cell_spec.specs.Strides.{box_size, box_place, Boxed};

@@ -8,7 +8,7 @@ use crate::points::{counted, raised};
 use crate::tiles::{write_counts, write_sums};
 
 // What a column of a tile holds: the sums of the two halves of its raised points, and how many were shot.
-#[derive(Drop)]
+#[derive(Clone, Copy)]
 pub struct Halves {
     pub low: u32,
     pub high: u32,

@@ -12,7 +12,7 @@ use crate::runs::sum_runs;
 use cell_row::wrapping::wrapping_add;
 
 // A sum with its count.
-#[derive(Drop)]
+#[derive(Clone, Copy)]
 pub struct Both {
     pub sum: i64,
     pub count: i64,

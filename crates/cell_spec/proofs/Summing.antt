@@ -1,11 +1,11 @@
 -- Laws of a box of sums: sum x * r + i of a box is sum i of its part x, of r sums.
-use Prim.Native.Nat.{ℕ, zero, suc, ◌≤◌, ◌<◌, ◌-◌, ◌+◌, ◌*◌}
-use mathlib.Core.Path.{◌≡◌, sym, ◌∙◌, refl, ap}
+use Prim.Native.Nat.{ℕ, suc, ◌≤◌, ◌<◌, ◌-◌, ◌+◌, ◌*◌}
+use mathlib.Core.Path.{◌≡◌, sym, ◌∙◌, ap}
 use mathlib.Core.List.{List}
 use native.Mathlib.Omega.{arith}
 use native.Mathlib.Nat.{add-zero, zero-mul, mul-one, add-mul, one-mul}
 use lib.ListN.{length, get_or, set}
-use lib.IntN.{ℤ, pos}
+use lib.IntN.{ℤ}
 use Rattle.cube_spec.specs.Boxes.{sum_z, product}
 use Rattle.cell_spec.specs.Wrapped.{wrapped}
 use Rattle.cell_spec.specs.Rows.{every, placed, written, combs}

@@ -16,8 +16,8 @@ use Rattle.cube_spec.specs.Boxes.{pick, sum_z, table}
 use Rattle.cube_spec.proofs.Sums.{by, sum_cong}
 use Rattle.cube_spec.proofs.Boxing.{row_of, rest_of}
 use Rattle.cube_spec.proofs.Tables.{table_of}
-use Rattle.cell_spec.specs.Wrapped.{residue, wrapped}
-use Rattle.cell_spec.specs.Rows.{from, every, placed, written, zeros, add_at, added_to, axis_sums, row_sums, Apart}
+use Rattle.cell_spec.specs.Wrapped.{wrapped}
+use Rattle.cell_spec.specs.Rows.{from, placed, written, add_at, added_to, axis_sums, row_sums, Apart}
 use Rattle.cell_spec.proofs.Modulo.{wrapped_add}
 use Rattle.cell_spec.proofs.Placing.{length_placed, unplaced, at_place, placed_cong, placed_more, placed_joined}
 

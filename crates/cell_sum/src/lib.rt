@@ -1,2 +1,4 @@
 // Sums over points of the array.
+#![tactic(auto)]
+
 pub mod summing;

@@ -1,5 +1,5 @@
 // What a controller asks for: the lengths in eight slots, the p used and the idle boards; or the refusal, with nothing but zeros.
-#[derive(Drop)]
+#[derive(Clone, Copy)]
 pub struct Asked {
     pub refusal: u8,
     pub used: u8,

@@ -1,2 +1,4 @@
 // Choices as callers hold them.
+#![tactic(auto)]
+
 pub mod types;

@@ -6,7 +6,7 @@ ghost use Rattle.cube_spec.specs.Choices.{keeps, full_mask, without_mask, grand_
 pub const CELL_CAP: u64 = 4_294_967_295;
 
 // A choice: the set of kept axes, bit d of the mask for axis d.
-#[derive(Drop)]
+#[derive(Clone, Copy)]
 pub struct Choice {
     pub mask: u8,
 }

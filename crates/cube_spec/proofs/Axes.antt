@@ -2,15 +2,13 @@
 use Prim.Native.Nat.{ℕ, zero, suc, ◌+◌, ◌*◌}
 use mathlib.Core.Path.{◌≡◌, sym, ◌∙◌, refl, ap, ap₂}
 use mathlib.Core.List.{List, [], ◌∷◌}
-use native.Mathlib.Nat.{zero-add, add-zero, mul-one, mul-zero}
+use native.Mathlib.Nat.{zero-add, add-zero, mul-zero}
 use native.Mathlib.Omega.{arith}
 use lib.ListN.{length}
 use Rattle.cube_spec.specs.Boxes.{product, table_from, table}
 use Rattle.cube_spec.specs.Tree.{kept, choice_cells, over_sets_from, over_sets, sent, moved, added}
-use Rattle.cube_spec.proofs.Boxing.{product_cong}
-use Rattle.cube_spec.proofs.Products.{product_last}
-use Rattle.cube_spec.proofs.Sets.{Down, down_up, down_out, has_head, kept_has, kept_other}
-use Rattle.cube_spec.proofs.Weights.{front_kept, front_summed, choice_cells_lem}
+use Rattle.cube_spec.proofs.Sets.{Down, down_up, down_out}
+use Rattle.cube_spec.proofs.Weights.{front_kept, front_summed}
 use Rattle.cube_spec.proofs.Powers.{product_drop}
 
 -- an axis: its length, and its key, by which it is priced (its exponent, or its length)

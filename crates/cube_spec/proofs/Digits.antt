@@ -7,7 +7,7 @@ use native.Mathlib.Nat.{div-eq_of_lt, mul_assoc, add-mul-div_right, add-mul-mod_
 use native.Mathlib.Decide.{dec_le}
 use borrow.Author.Tests.{eq-eqb, ne_eqb, eqb-true, eqb-false}
 use lib.Dec.{eqb}
-use lib.Pow.{pow_pos, pow-lt, pow-add}
+use lib.Pow.{pow_pos, pow-add}
 use Rattle.cube_spec.specs.Boxes.{pick, sum_n}
 use Rattle.cube_spec.specs.Choices.{keeps, full_mask, without_mask, with_mask}
 use Rattle.cube_spec.proofs.Sums.{by}

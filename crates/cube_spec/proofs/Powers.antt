@@ -1,9 +1,9 @@
 -- Products of powers of two: the labels of boards, all of them and those of a choice's leads.
 use Prim.Native.Nat.{ℕ, zero, suc, ◌+◌, ◌-◌, ◌*◌, ◌/◌, ◌^◌, ◌≤◌, ◌<◌}
-use mathlib.Core.Path.{◌≡◌, sym, ◌∙◌, refl, ap, ap₂}
-use mathlib.Core.Bool.{Bool, true, false}
+use mathlib.Core.Path.{◌≡◌, sym, ◌∙◌, refl, ap}
+use mathlib.Core.Bool.{false}
 use mathlib.Core.List.{List, [], ◌∷◌}
-use native.Mathlib.Nat.{zero-add, mul-one, one-mul, mul_assoc, mul_comm, mul-le-mul, le_refl, mul-div_cancel}
+use native.Mathlib.Nat.{zero-add, mul-one, one-mul, mul_assoc, mul-le-mul, le_refl, mul-div_cancel}
 use native.Mathlib.Numerals.{add-one}
 use native.Mathlib.Decide.{dec_le}
 use native.Mathlib.Omega.{arith}

@@ -1,8 +1,7 @@
 -- Laws of products over the axes of a box.
 use Prim.Native.Nat.{ℕ, zero, suc, ◌+◌, ◌-◌, ◌*◌, ◌≤◌, ◌<◌}
 use mathlib.Core.Path.{◌≡◌, sym, ◌∙◌, refl, ap, ap₂}
-use mathlib.Core.Bool.{Bool, true, false}
-use native.Mathlib.Nat.{add-zero, mul-pos, mul-le-mul, mul_assoc, mul-one, one-mul, zero-mul, mul-zero, le_refl, mul-le-mul_left}
+use native.Mathlib.Nat.{mul-pos, mul-le-mul, mul_assoc, mul-one, one-mul, zero-mul, mul-zero, le_refl, mul-le-mul_left}
 use native.Mathlib.Numerals.{add-one}
 use native.Mathlib.Omega.{arith}
 use borrow.Author.Tests.{eqb-true, eqb-false, eq-eqb, ne_eqb}

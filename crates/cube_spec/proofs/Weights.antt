@@ -1,12 +1,12 @@
 -- Values moved as the sum of weight × (2^k − 1).
-use Prim.Native.Nat.{ℕ, zero, suc, ◌+◌, ◌-◌, ◌*◌, ◌≤◌, ◌<◌}
+use Prim.Native.Nat.{ℕ, zero, suc, ◌+◌, ◌-◌, ◌*◌}
 use mathlib.Core.Path.{◌≡◌, sym, ◌∙◌, refl, ap, ap₂}
 use mathlib.Core.List.{List, [], ◌∷◌}
-use native.Mathlib.Nat.{zero-add, add-zero, mul-one, one-mul, mul-zero}
+use native.Mathlib.Nat.{zero-add, add-zero, mul-one, mul-zero}
 use native.Mathlib.Omega.{arith}
 use Rattle.cube_spec.proofs.Naturals.{sum_n_last}
 use Rattle.cube_spec.specs.Boxes.{sum_n, product}
-use Rattle.cube_spec.specs.Tree.{has, kept, choice_cells, last_of, over_sets_from, sent, moved, weight, weighted}
+use Rattle.cube_spec.specs.Tree.{kept, choice_cells, last_of, over_sets_from, sent, moved, weight, weighted}
 use Rattle.cube_spec.proofs.Boxing.{product_cong}
 use Rattle.cube_spec.proofs.Products.{product_append, product_last}
 use Rattle.cube_spec.proofs.Sets.{Down, down_up, down_out, has_head, kept_has, kept_out, kept_other}

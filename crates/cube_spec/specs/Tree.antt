@@ -1,6 +1,6 @@
 -- The aggregation tree of a plan, and the sums over it. Axes go by their place in the plan, and there are n of them.
 -- A choice is given by its summed-out set Y, the list of the places of its summed axes with the last one first.
-use Rattle.std.specs.Prelude.{ℕ, zero, suc, ◌+◌, ◌-◌, ◌*◌, ◌^◌, Bool, true, false, ◌||◌, List, [], ◌∷◌, eqb, ltb}
+use Rattle.std.specs.Prelude.{ℕ, zero, suc, ◌+◌, ◌-◌, ◌*◌, ◌^◌, Bool, false, ◌||◌, List, [], ◌∷◌, eqb}
 use Rattle.cube_spec.specs.Boxes.{pick, sum_n, product}
 
 -- is the axis at place d summed out?

@@ -1,1 +1,2 @@
 // Definitions and laws of choices, boxes and the tree; the code of choices is in `cube_choice`.
+#![tactic(auto)]

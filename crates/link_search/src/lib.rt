@@ -1,2 +1,4 @@
 // The search for a cheap division over links that cost unequally.
+#![tactic(auto)]
+
 pub mod searching;

@@ -37,7 +37,7 @@ module _ (ds : List ℕ) (p : ℕ) (links : List ℕ) where
   found_anytime : (budget : ℕ) → SearchAccepted ds p links budget → Anytime ds p links budget (searched_as 0 (search ds p links budget))
   unfolding searched_as
   found_anytime budget ok =
-      let (e, g) = distance.answer-division ds p links ok.lengths.some ok.each budget ok.pays in
+      let (e, g) = distance.answer_division ds p links ok.lengths.some ok.each budget ok.pays in
       record {
         accepted = refl;
         listed = listing ds (power_used ds p) ok.lengths.some;
@@ -45,11 +45,11 @@ module _ (ds : List ℕ) (p : ℕ) (links : List ℕ) where
         parents = λ e. (cheapest_way (fare links e.exponents) (length ds), cheapest_attained ds links e);
         division = e;
         exponents = ap padded (sym g);
-        first = rw g (distance.first-so-far ds p links ok.lengths.some ok.each budget ok.pays);
-        cost = distance.cost-of ds p links ok.lengths.some ok.each budget ok.pays ∙ ap (cheapest_cost ds links) (sym g);
+        first = rw g (distance.first_so_far ds p links ok.lengths.some ok.each budget ok.pays);
+        cost = distance.cost_of ds p links ok.lengths.some ok.each budget ok.pays ∙ ap (cheapest_cost ds links) (sym g);
         priced = unfold search in refl;
-        smallest_least = λ d h. distance.smallest-le links d (rw ok.each h);
-        smallest_some = rw ok.each at (distance.smallest-at links (rw ok.each ok.lengths.axes));
+        smallest_least = λ d h. distance.smallest_le links d (rw ok.each h);
+        smallest_some = rw ok.each at (distance.smallest_at links (rw ok.each ok.lengths.axes));
         early = distance.distance_some ds p links ok.lengths.some ok.each budget ok.pays;
         whole = distance.distance_none ds p links ok.lengths.some ok.each budget ok.pays;
         undercut = distance.undercut ds p links ok.lengths.some ok.each budget ok.pays;
@@ -64,13 +64,13 @@ module _ (ds : List ℕ) (p : ℕ) (links : List ℕ) where
     unfolding searched_as
     cost_falls =
         let ok = fine b x in
-        rw (found_is b x, found_is c y) (distance.cost-falls ds p links ok.lengths.some ok.each b c ok.pays h)
+        rw (found_is b x, found_is c y) (distance.cost_falls ds p links ok.lengths.some ok.each b c ok.pays h)
 
     pub distance_falls : (searching ds p links c).distance ≤ (searching ds p links b).distance
     unfolding searched_as
     distance_falls =
         let ok = fine b x in
-        rw (found_is b x, found_is c y) (distance.distance-falls ds p links ok.lengths.some ok.each b c ok.pays h)
+        rw (found_is b x, found_is c y) (distance.distance_falls ds p links ok.lengths.some ok.each b c ok.pays h)
 
   -- WITH ALL LINK WEIGHTS w THE WHOLE SEARCH COSTS w FOR EACH VALUE THAT THE PLANNER MOVES
   pub alike : (budget w : ℕ) → (searching ds p links budget).refusal ≡ 0 → ((d : ℕ) → d < length ds → link_of links d ≡ w) → length (in_use ds p) ≤ budget

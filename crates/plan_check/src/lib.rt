@@ -1,3 +1,5 @@
+#![tactic(auto)]
+
 ghost use Rattle.std.specs.Prelude.{◌≡◌, false, ◌||◌, [], ◌∷◌, ◌^◌, ◌≤◌, ◌<◌, leb, get_or, take};
 ghost use Rattle.cube_spec.specs.Limits.{axis_limit};
 ghost use Rattle.cube_spec.specs.Choices.{length_of};

@@ -1,4 +1,6 @@
 // The portion rule, on numbers: an axis of some length is cut into 2^k portions. No plan is passed, since the loops over axes ask it in every turn.
+#![tactic(auto)]
+
 ghost use Rattle.std.specs.Prelude.{◌≡◌, suc, ◌-◌, ◌/◌, ◌%◌, ◌^◌, ◌≤◌, ◌<◌};
 ghost use Rattle.cube_spec.specs.Boxes.{pick};
 ghost use Rattle.cube_spec.specs.Limits.{power_limit};

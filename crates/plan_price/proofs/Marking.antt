@@ -1,7 +1,6 @@
 -- What the mark in an answer of pricing means (plan_spec/Marking), for whatever plan a call is lent: yes exactly where no way adds up fewer cells than
 -- the answer says.
 use mathlib.Core.Path.{◌≡◌, sym, ◌∙◌, subst}
-use lib.ListN.{length-map}
 use contract.Lifetimes.{Lfts}
 use borrow.Fn.World.{ArgsD, ResD}
 use borrow.Fn.Kinds.{GoodsP}
@@ -38,5 +37,5 @@ pub priced_marking : (κs : Lfts 0) (a : ArgsD signature κs) (r : ResD signatur
 priced_marking κs a r s good h m e =
     let q : priced_reply r ≡ pricing a.0 = h in
     let g = good.0.1.1.1.1 in
-    let slots : HasSlots a.0 = (rw length-map at g.0.1.0.1, (rw length-map at g.1.0.1.0.1, rw length-map at g.1.1.0.1.0.1)) in
+    let slots : HasSlots a.0 = (g.0.1.0.1, (g.1.0.1.0.1, g.1.1.0.1.0.1)) in
     pricing_marking a.0 slots m (sym q ∙ e)

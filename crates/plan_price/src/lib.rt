@@ -1,2 +1,4 @@
 // A plan's prices.
+#![tactic(auto)]
+
 pub mod pricing;

@@ -13,7 +13,7 @@ use plan_region::{exponents_along, regions_to};
 use plan_spec::types::{Marked, Plan, Priced, Prices};
 
 // What choices move and add up.
-#[derive(Drop)]
+#[derive(Clone, Copy)]
 pub struct Sums {
     pub moved: u64,
     pub added: u64,

@@ -1,4 +1,6 @@
 // The regions of a share.
+#![tactic(auto)]
+
 ghost use Rattle.std.specs.Prelude.{◌≡◌, ℕ, ◌+◌, ◌*◌, ◌^◌, ◌≤◌, ◌<◌, get_or};
 ghost use Rattle.cube_spec.specs.Limits.{axis_limit, power_limit, point_limit, padded};
 ghost use Rattle.cube_spec.specs.Boxes.{pick, table};
@@ -12,7 +14,7 @@ use plan_order::in_order;
 use plan_spec::types::Plan;
 
 // Where a region of a share starts, and how many cells the share has.
-#[derive(Drop)]
+#[derive(Clone, Copy)]
 pub struct Region {
     pub start: u64,
     pub share: u64,

@@ -1,2 +1,4 @@
 // The planner's division of its order.
+#![tactic(auto)]
+
 pub mod rule;

@@ -1,7 +1,7 @@
 -- The planner's arrays are those of the rule.
-use Prim.Native.Nat.{ℕ, zero, suc, ◌+◌, ◌-◌, ◌*◌, ◌^◌, ◌≤◌, ◌<◌}
+use Prim.Native.Nat.{ℕ, zero, suc, ◌+◌, ◌-◌, ◌*◌, ◌≤◌, ◌<◌}
 use mathlib.Core.Path.{◌≡◌, sym, ◌∙◌, refl, ap, ap₂}
-use mathlib.Core.List.{List, [], ◌∷◌}
+use mathlib.Core.List.{List, ◌∷◌}
 use native.Mathlib.Omega.{arith}
 use lib.ListN.{length, get_or, take, replicate, get_or-replicate}
 use lib.Seq.{get_or-take, length-take-le}
@@ -11,8 +11,8 @@ use Rattle.cube_spec.specs.Choices.{length_of, points}
 use Rattle.cube_spec.specs.Tree.{weight}
 use Rattle.cube_spec.proofs.Boxing.{product_cong}
 use Rattle.cube_spec.proofs.Slots.{padded_at, table_here}
-use Rattle.plan_spec.specs.Plans.{Sound, count, find}
-use Rattle.plan_spec.specs.Rule.{Entry, order, ordered_length, entries, greedy, exps, ordered_exponents, plan_of}
+use Rattle.plan_spec.specs.Plans.{Sound, find}
+use Rattle.plan_spec.specs.Rule.{order, ordered_length, entries, greedy, exps, ordered_exponents, plan_of}
 use Rattle.plan_spec.specs.Accepted.{PlanningAccepted}
 use Rattle.plan_spec.specs.Choosing.{Bounded, Raisable, entry, entry_at, candidates}
 use Rattle.plan_spec.proofs.Orders.{order_below, rank_below, product_order}

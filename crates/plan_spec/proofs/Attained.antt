@@ -179,7 +179,7 @@ least_typed kept e m j [] = refl
 least_typed kept e m j (d ∷ ds) =
     let q : j + 0 ≡ j = omega arith in
     let f : ◌≡◌ {A = ℕ → Bool} (λ d. kept (j + suc d)) (λ d. kept (suc j + d)) = fun_ext (λ d. ap kept (omega arith)) in
-    ap₂ (λ (x : ℕ) (g : ℕ → Bool). least_key (pick (kept x) m (lower m (e j))) g (keyed e (numbered (suc j) ds))) q f ∙ least_typed kept e _ (suc j) ds
+    ap₂ (λ (x : ℕ) (g : ℕ → Bool). least_key (pick (kept x) m (lower m (e j))) g (keyed e (numbered (suc j) ds))) q f ∙ least_typed kept e (pick (kept j) m (lower m (e j))) (suc j) ds
 
 -- where keys fall along the order, the last axis summed has the least key
 last_least : (kept : ℕ → Bool) (e : ℕ → ℕ) (i : ℕ) (l : List Typed) → Falls (e i) (each e l) → least_summed kept e (some (e i)) l ≡ some (e (last_summed kept i (numbers l)))

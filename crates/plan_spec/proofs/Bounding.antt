@@ -1,13 +1,13 @@
 -- Bounds that keep the planner's numbers within 64 bits.
 use Prim.Native.Nat.{ℕ, zero, suc, ◌+◌, ◌-◌, ◌*◌, ◌^◌, ◌≤◌, ◌<◌}
-use mathlib.Core.Path.{◌≡◌, sym, ◌∙◌, refl, ap}
-use native.Mathlib.Nat.{zero-add, mul-le-mul, mul-le-mul_left, mul-le-mul_right, mul-one, one-mul, mul_assoc, le_refl, le_trans, le_of_eq, pow-succ'}
+use mathlib.Core.Path.{◌≡◌, sym, ◌∙◌, ap}
+use native.Mathlib.Nat.{zero-add, mul-le-mul, mul-le-mul_left, mul-le-mul_right, mul-one, one-mul, mul_assoc, le_trans, le_of_eq, pow-succ'}
 use native.Mathlib.Omega.{arith}
-use lib.Pow.{pow_pos, pow_mono}
+use lib.Pow.{pow_mono}
 use Rattle.cube_spec.specs.Limits.{point_limit}
 use Rattle.cube_spec.specs.Boxes.{product}
 use Rattle.cube_spec.specs.Tree.{weight}
-use Rattle.cube_spec.proofs.Products.{product_pos, product_append, product_next, product_none, factor_le}
+use Rattle.cube_spec.proofs.Products.{product_pos, product_append, product_next, product_none}
 use Rattle.plan_spec.specs.Choosing.{Bounded}
 
 -- each length one more at most doubles it

@@ -134,8 +134,9 @@ module _ (price : ℕ → ℕ) where
   module _ (up : (j k : ℕ) → j ≤ k → price j ≤ price k) where
     cost_rises : {j k : ℕ} (c : ℕ) (r : List Axis) → j ≤ k → cost (some j) c r ≤ cost (some k) c r
     unfolding cost rate lower
-    cost_rises c [] h = mul-le-mul_left c (up _ _ h)
-    cost_rises c (a ∷ r) h = add-le-add (cost_rises (c * a.len) r h) (cost_rises c r (omega arith))
+    cost_rises {j = j} {k = k} c [] h = mul-le-mul_left c (up _ _ h)
+    cost_rises {j = j} {k = k} c (a ∷ r) h =
+        add-le-add (cost_rises {j = j} {k = k} (c * a.len) r h) (cost_rises {j = min j a.key} {k = min k a.key} c r (omega arith))
 
     lower_rises : (m : Option ℕ) {j k : ℕ} (c : ℕ) (r : List Axis) → j ≤ k → cost (lower m j) c r ≤ cost (lower m k) c r
     unfolding lower

@@ -18,7 +18,7 @@ use Rattle.cube_spec.proofs.Slots.{table_here}
 use Rattle.cube_spec.proofs.Axes.{Axis, keys, tree, added_tree}
 use Rattle.plan_spec.specs.Plans as Plans
 use Rattle.plan_spec.specs.Plans.{PlanLists, count, length_at}
-use Rattle.plan_spec.specs.Rule.{Typed, numbered, order, ordered_length, plan_of}
+use Rattle.plan_spec.specs.Rule.{Typed, numbered, ordered_length, plan_of}
 use Rattle.plan_spec.specs.Refusals.{all}
 use Rattle.plan_spec.specs.Answers.{steady_at, never_rise, fewest_added}
 use Rattle.plan_spec.specs.Marking.{Marking}

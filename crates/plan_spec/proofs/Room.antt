@@ -61,7 +61,7 @@ fill p (d ∷ ds) = min p (log2 d) ∷ fill (p - min p (log2 d)) ds
 fill_length : (p : ℕ) (ds : List ℕ) → length (fill p ds) ≡ length ds
 unfolding fill
 fill_length p [] = refl
-fill_length p (d ∷ ds) = ap suc (fill_length _ ds)
+fill_length p (d ∷ ds) = ap suc (fill_length (p - min p (log2 d)) ds)
 
 fill_sum : (p : ℕ) (ds : List ℕ) → p ≤ room ds → sum_list (fill p ds) ≡ p
 unfolding fill sum_list room
@@ -72,7 +72,7 @@ fill_fits : (p : ℕ) (ds : List ℕ) → ((i : ℕ) → i < length ds → 1 ≤
 unfolding fill
 fill_fits p [] h i l = absurd (omega arith)
 fill_fits p (d ∷ ds) h zero l = le_trans (pow_mono (min-le_right p (log2 d))) (log2_fit d (h 0 (omega arith)))
-fill_fits p (d ∷ ds) h (suc i) l = fill_fits _ ds (λ j m. h (suc j) (omega arith)) i (omega arith)
+fill_fits p (d ∷ ds) h (suc i) l = fill_fits (p - min p (log2 d)) ds (λ j m. h (suc j) (omega arith)) i (omega arith)
 
 -- and there is one for each p up to it
 pub room_division : (ds : List ℕ) (p : ℕ) → ((d : ℕ) → d < length ds → 1 ≤ length_of ds d) → p ≤ room ds → Division ds p

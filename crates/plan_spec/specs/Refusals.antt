@@ -1,5 +1,5 @@
 -- The checks that concern lengths, p and plans, and the refusals of planning and pricing.
-use Rattle.std.specs.Prelude.{ℕ, zero, suc, ◌+◌, ◌^◌, Bool, true, false, ◌&&◌, ◌||◌, not, List, [], ◌∷◌, ◌++◌, eqb, ltb, leb, length, get_or, drop}
+use Rattle.std.specs.Prelude.{ℕ, zero, suc, ◌^◌, Bool, true, false, ◌&&◌, ◌||◌, not, List, [], ◌∷◌, ◌++◌, eqb, ltb, leb, length, get_or, drop}
 use Rattle.cube_spec.specs.Limits.{axis_limit, length_limit, point_limit, power_limit}
 use Rattle.cube_spec.specs.Choices.{points, length_of}
 use Rattle.cube_spec.specs.Ways.{sum_list}

@@ -1,6 +1,6 @@
 // A plan, lent and returned by value. Lengths and exponents are by axis number; slots past the last axis are zero.
 // Lengths are wider than 16 bits, so that one over 65,535 can be given and refused.
-#[derive(Drop)]
+#[derive(Clone, Copy)]
 pub struct Plan {
     pub axes: u8,
     pub p: u8,
@@ -10,7 +10,7 @@ pub struct Plan {
 }
 
 // What a plan costs: values moved, cells added up, and A, the cells of a board's share.
-#[derive(Drop)]
+#[derive(Clone, Copy)]
 pub struct Prices {
     pub moved: u64,
     pub added: u64,
@@ -18,21 +18,21 @@ pub struct Prices {
 }
 
 // A plan's prices, and whether it has the fewest cells added up.
-#[derive(Drop)]
+#[derive(Clone, Copy)]
 pub struct Marked {
     pub prices: Prices,
     pub fewest: bool,
 }
 
 // The answer of pricing.
-#[derive(Drop)]
+#[derive(Clone, Copy)]
 pub enum Priced {
     Given(Marked),
     Refused(u8),
 }
 
 // The answer of planning: refusal 0 with the plan, its prices and how many of the boards asked for stand idle, or the refusal with nothing but zeros.
-#[derive(Drop)]
+#[derive(Clone, Copy)]
 pub struct Planned {
     pub refusal: u8,
     pub plan: Plan,
@@ -41,7 +41,7 @@ pub struct Planned {
 }
 
 // The axis numbers and the exponents, both in plan order.
-#[derive(Drop)]
+#[derive(Clone, Copy)]
 pub struct Arrangement {
     pub order: [u8; 8],
     pub exponents: [u8; 8],

@@ -1,4 +1,6 @@
 // The generator: reads a seed line on standard input, and prints the tape of its practice campaign on standard output.
+#![tactic(auto)]
+
 mod reading;
 mod types;
 mod writing;

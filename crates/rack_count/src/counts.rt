@@ -13,7 +13,7 @@ use rack_spec::types::Counted;
 
 // At each place up to the number of axes: the ways to label the axes from there on, and the transfers of a walk over them.
 // Narrow, since what a board holds is found by handing them down at every turn.
-#[derive(Drop)]
+#[derive(Clone, Copy)]
 pub struct Tallies {
     pub span: [u32; 9],
     pub sent: [u32; 9],

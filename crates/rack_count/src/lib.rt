@@ -1,2 +1,4 @@
 // How many steps a plan has, and the tallies over its axes.
+#![tactic(auto)]
+
 pub mod counts;

@@ -1,3 +1,5 @@
 // The step at a position.
+#![tactic(auto)]
+
 pub mod steps;
 pub mod types;

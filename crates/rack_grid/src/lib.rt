@@ -1,2 +1,4 @@
 // Boards, leads and cells of a plan.
+#![tactic(auto)]
+
 pub mod places;

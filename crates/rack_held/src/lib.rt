@@ -1,2 +1,4 @@
 // What a board holds.
+#![tactic(auto)]
+
 pub mod holds;

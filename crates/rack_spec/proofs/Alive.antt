@@ -137,10 +137,10 @@ module _ (g : Grid) (b : ℕ) where
   walk_alive zero d Y at h = refl
   walk_alive (suc m) d Y at h =
       ap₂ ◌+◌
-      (over_alike _ _ m (d + 1) Y (λ j W l x. siblings_alive m d Y h at j W l x) ∙ walk_alive m (d + 1) Y at (down_up Y d (d + 1) (omega arith) h))
+      (over_alike (alive (take at (walk g (suc m) d Y)) Y) (alive (take at (walk g m (d + 1) Y)) Y) m (d + 1) Y (λ j W l x. siblings_alive m d Y h at j W l x) ∙ walk_alive m (d + 1) Y at (down_up Y d (d + 1) (omega arith) h))
       (ap₂ ◌+◌
       (child_alive m d Y h at)
-      (over_alike _ _ m (d + 1) (d ∷ Y) (λ j W l x. below_alive m d Y h at j W l x) ∙ visit_alive m (d + 1) (d ∷ Y) (into g m d Y at) (omega arith, h) ∙ ap (pick (eqb (into g m d Y at) 0) 0) (walk_alive m (d + 1) (d ∷ Y) (into g m d Y at - 1) (omega arith, h))))
+      (over_alike (alive (take at (walk g (suc m) d Y)) Y) (seen (take (into g m d Y at) (visited g m d Y))) m (d + 1) (d ∷ Y) (λ j W l x. below_alive m d Y h at j W l x) ∙ visit_alive m (d + 1) (d ∷ Y) (into g m d Y at) (omega arith, h) ∙ ap (pick (eqb (into g m d Y at) 0) 0) (walk_alive m (d + 1) (d ∷ Y) (into g m d Y at - 1) (omega arith, h))))
 
   -- WHAT IS HELD after the first step is what the walk says
   pub held_walk_lem : (at : ℕ) → held g (suc at) b ≡ held_walk g b g.axes 0 [] at

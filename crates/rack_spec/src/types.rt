@@ -1,7 +1,7 @@
 use cube_choice::types::Choice;
 
 // A transfer: all cells of the choice that the sender has are added to the receiver's.
-#[derive(Drop)]
+#[derive(Clone, Copy)]
 pub struct Transfer {
     pub sender: u32,
     pub receiver: u32,
@@ -10,7 +10,7 @@ pub struct Transfer {
 }
 
 // A step that is taken, or why none is.
-#[derive(Drop)]
+#[derive(Clone, Copy)]
 pub enum Step {
     Expand(Choice),
     Transfer(Transfer),
@@ -20,14 +20,14 @@ pub enum Step {
 }
 
 // The answer of held: a number of cells.
-#[derive(Drop)]
+#[derive(Clone, Copy)]
 pub enum Held {
     Cells(u64),
     Refused(u8),
 }
 
 // The answer of the step count: T.
-#[derive(Drop)]
+#[derive(Clone, Copy)]
 pub enum Counted {
     Steps(u64),
     Refused(u8),

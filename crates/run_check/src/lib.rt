@@ -1,4 +1,6 @@
 // The refusals of the entries that take memory, each the first line of its list that is due.
+#![tactic(auto)]
+
 ghost use Rattle.std.specs.Prelude.{◌≡◌, ℕ, ◌^◌, ◌≤◌, ◌<◌};
 ghost use Rattle.cube_spec.specs.Choices.{points};
 ghost use Rattle.cube_spec.specs.Limits.{point_limit};

@@ -11,7 +11,7 @@ use plan_spec::types::Plan;
 use rack_grid::places::share_of;
 
 // A, the cells of a share, and where each region of a share starts.
-#[derive(Drop)]
+#[derive(Clone, Copy)]
 pub struct Regions {
     pub share: u64,
     pub starts: [u64; 8],

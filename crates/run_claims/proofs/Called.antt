@@ -29,7 +29,7 @@ use Rattle.rack_spec.proofs.Refusing.{held_given}
 use Rattle.plan_entry.specs.Best.{Runnable}
 use Rattle.plan_entry.proofs.Best.{planned_runs}
 use Rattle.plan_entry.specs.contracts.planning.plan as plan
-use Rattle.plan_entry.proofs.planning.plan.Reads as plan-reads
+use Rattle.plan_entry.proofs.planning.plan.Reads as plan_reads
 use Rattle.rack_held.specs.contracts.holds.held as held
 use Rattle.rack_held.proofs.holds.held.Reads as held_reads
 use Rattle.run_spec.specs.Entries.{Outcome, outcome, taken, step_or, step_refusal, stepping}
@@ -96,9 +96,9 @@ listed {q} (one_more {l} before κs a r s h e p) =
 
 -- ---- what one call answers
 
-module _ (q : Plan) (sound : Sound (lists_of q)) (some-axes : 1 ≤ length (lists_of q).lengths) (array work : List ℤ) (at : ℕ) (inside : at ≤ step_count (lists_of q)) where
+module _ (q : Plan) (sound : Sound (lists_of q)) (some_axes : 1 ≤ length (lists_of q).lengths) (array work : List ℤ) (at : ℕ) (inside : at ≤ step_count (lists_of q)) where
   count : length (steps (plan_grid q)) ≡ step_count (lists_of q)
-  count = steps_length (lists_of q) sound some-axes
+  count = steps_length (lists_of q) sound some_axes
 
   told_next : (m : TreeStep) → get_elem? (steps (plan_grid q)) at ≡ some m → step_refusal q (length array) (length work) at ≡ 0 → (t : Told) (w : List ℤ) (p : ℕ)
       → t ≡ telling (plan_grid q) m → p ≡ at + 1 → w ≡ (stepping q array work at).work → AnsweredWith q array work at w p t
@@ -146,7 +146,7 @@ module _ (q : Plan) (sound : Sound (lists_of q)) (some-axes : 1 ≤ length (list
 
 -- ---- the claim, on "one plan that the planner returned": what its callers learned with refusal 0
 
-module _ (κp : Lfts 1) (ap' : ArgsD plan.signature κp) (rp : ResD plan.signature κp) (sp : AtExit plan.ended κp) (hp : plan-reads.Learnt κp ap' rp sp) (zero-refusal : rp.refusal ≡ 0) where
+module _ (κp : Lfts 1) (ap' : ArgsD plan.signature κp) (rp : ResD plan.signature κp) (sp : AtExit plan.ended κp) (hp : plan_reads.Learnt κp ap' rp sp) (zero_refusal : rp.refusal ≡ 0) where
   -- Statement: of a whole list of calls,
   pub record Claim (calls : List Call) : Type 0 where
     -- what the transfers report and every call answers, with the planner's values moved;
@@ -159,7 +159,7 @@ module _ (κp : Lfts 1) (ap' : ArgsD plan.signature κp) (rp : ResD plan.signatu
         → Holds (held_reply r₁) (held_reply r₂)
 
   runs : Runnable ap'.0.now (power_used ap'.0.now ap'.1.0) rp
-  runs = planned_runs κp ap' rp sp hp zero-refusal
+  runs = planned_runs κp ap' rp sp hp zero_refusal
 
   price : rp.prices.moved ≡ moved (lists_of rp.plan)
   price = ap (λ x. x.moved) runs.prices ∙ (unfold prices_of in refl)

@@ -43,11 +43,11 @@ use Rattle.run_claims.specs.Exact.{Begins, finishes_once, times_said, Reached}
 use Rattle.run_claims.proofs.Called.{does}
 use Rattle.run_spec.proofs.Positions.{take_next, gathered_at, viewed_at}
 use Rattle.run_gather.specs.contracts.copying.gather as gather
-use Rattle.run_gather.proofs.copying.gather.Reads as gather-reads
+use Rattle.run_gather.proofs.copying.gather.Reads as gather_reads
 use Rattle.run_view.specs.contracts.viewing.view as view
-use Rattle.run_view.proofs.viewing.view.Reads as view-reads
-use Rattle.run_view.specs.contracts.viewing.view_refusal as view-refusal
-use Rattle.run_view.proofs.viewing.view_refusal.Reads as view-refusal-reads
+use Rattle.run_view.proofs.viewing.view.Reads as view_reads
+use Rattle.run_view.specs.contracts.viewing.view_refusal as refusing
+use Rattle.run_view.proofs.viewing.view_refusal.Reads as refusal_reads
 use Rattle.run_step.specs.contracts.stepping.step.{signature, ended}
 use Rattle.run_step.proofs.stepping.step.Reads as reads
 
@@ -224,7 +224,7 @@ module _ (q : Plan) (array work₀ : List ℤ) (begins : Begins q array work₀)
     Y = name.set
 
     -- Statement: what gather gives, no refusal and the exact totals of the choice.
-    pub gathered_run : (κs : Lfts 2) (a : ArgsD gather.signature κs) (r : ResD gather.signature κs) (s : AtExit gather.ended κs) → gather-reads.Learnt κs a r s → a.0 ≡ q → a.1.0.now ≡ w → a.1.1.0 ≡ at → length a.1.1.1.0.now ≡ cells (lists_of q).lengths mask
+    pub gathered_run : (κs : Lfts 2) (a : ArgsD gather.signature κs) (r : ResD gather.signature κs) (s : AtExit gather.ended κs) → gather_reads.Learnt κs a r s → a.0 ≡ q → a.1.0.now ≡ w → a.1.1.0 ≡ at → length a.1.1.1.0.now ≡ cells (lists_of q).lengths mask
         → (r ≡ 0) × (s.1.1.1.0.now ≡ totals (lists_of q).lengths (read array) mask)
     gathered_run κs a r s h e v p n =
         let old = a.1.1.1.0.now in
@@ -242,7 +242,7 @@ module _ (q : Plan) (array work₀ : List ℤ) (begins : Begins q array work₀)
         )
 
     -- Statement: no view of a board of the rack is refused.
-    pub viewed_granted : (κs : Lfts 1) (a : ArgsD view-refusal.signature κs) (r : ResD view-refusal.signature κs) (s : AtExit view-refusal.ended κs) → view-refusal-reads.Learnt κs a r s → a.0 ≡ q → a.1.0.now ≡ w → a.1.1.0 ≡ at → a.1.1.1.0 < board_count (lists_of q) → r ≡ 0
+    pub viewed_granted : (κs : Lfts 1) (a : ArgsD refusing.signature κs) (r : ResD refusing.signature κs) (s : AtExit refusing.ended κs) → refusal_reads.Learnt κs a r s → a.0 ≡ q → a.1.0.now ≡ w → a.1.1.0 ≡ at → a.1.1.1.0 < board_count (lists_of q) → r ≡ 0
     viewed_granted κs a r s h e v p n =
         h
         ∙ ap₂ (λ q x. view_refusal q (length x) a.1.1.0 a.1.1.1.0) e v
@@ -250,7 +250,7 @@ module _ (q : Plan) (array work₀ : List ℤ) (begins : Begins q array work₀)
         ∙ sym (view_passed q (length w) at a.1.1.1.0 first_call.plan kept_room kept_within (let f = name.there in rw f refl) n)
 
     -- Statement: what view shows, on a lead of the choice the exact totals at the positions of its cells, on another board nothing.
-    pub viewed_run : (κs : Lfts 1) (a : ArgsD view.signature κs) (r : ResD view.signature κs) (s : AtExit view.ended κs) → view-reads.Learnt κs a r s → a.0 ≡ q → a.1.0.now ≡ w → a.1.1.0 ≡ at → a.1.1.1.0 < board_count (lists_of q)
+    pub viewed_run : (κs : Lfts 1) (a : ArgsD view.signature κs) (r : ResD view.signature κs) (s : AtExit view.ended κs) → view_reads.Learnt κs a r s → a.0 ≡ q → a.1.0.now ≡ w → a.1.1.0 ≡ at → a.1.1.1.0 < board_count (lists_of q)
         → r.now ≡ pick (lead g (summed_in q mask) a.1.1.1.0) (table (Grids.cells g (summed_in q mask) a.1.1.1.0) (λ c. total (lists_of q).lengths (read array) mask (λ d. global g a.1.1.1.0 (position (box g (summed_in q mask) a.1.1.1.0) g.axes 0 c) (g.rank d)))) []
     viewed_run κs a r s h e v p n =
         let b = a.1.1.1.0 in

@@ -1,4 +1,6 @@
 // The cells of a choice, copied lead by lead.
+#![tactic(auto)]
+
 ghost use Rattle.std.specs.Prelude.{◌≡◌, true, ◌-◌, ◌*◌, ◌≤◌, ◌<◌, length};
 ghost use Rattle.cube_spec.specs.Limits.{point_limit};
 ghost use Rattle.cube_spec.specs.Tree.{next};

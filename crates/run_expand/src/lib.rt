@@ -1,2 +1,4 @@
 // Expansions on the work area.
+#![tactic(auto)]
+
 pub mod expansions;

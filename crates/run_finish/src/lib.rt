@@ -1,4 +1,6 @@
 // The step before a position, and whether it is a finish.
+#![tactic(auto)]
+
 ghost use Rattle.std.specs.Prelude.{◌≡◌, not};
 ghost use Rattle.plan_spec.specs.Refusals.{plan_refusal};
 ghost use Rattle.rack_spec.specs.Finding.{plan_grid};

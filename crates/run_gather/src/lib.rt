@@ -1,2 +1,4 @@
 // The entry that gathers a finished choice.
+#![tactic(auto)]
+
 pub mod copying;

@@ -1,2 +1,4 @@
 // Boxes through strides: axes merged.
+#![tactic(auto)]
+
 pub mod merging;

@@ -1,4 +1,6 @@
 // A transfer on the work area.
+#![tactic(auto)]
+
 ghost use Rattle.std.specs.Prelude.{◌≡◌, [], length};
 ghost use Rattle.rack_spec.specs.Steps.{transfer};
 ghost use Rattle.rack_spec.specs.Finding.{plan_grid, summed_in};

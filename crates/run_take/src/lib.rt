@@ -1,4 +1,6 @@
 // A step that no check refuses, taken on a work area.
+#![tactic(auto)]
+
 ghost use Rattle.std.specs.Prelude.{◌≡◌, length};
 ghost use Rattle.rack_spec.specs.Answers.{told};
 ghost use Rattle.rack_count.specs.Tallied.{Tallied};

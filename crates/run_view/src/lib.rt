@@ -1,3 +1,5 @@
 // The entries that show a finished choice.
+#![tactic(auto)]
+
 pub mod types;
 pub mod viewing;

@@ -1,5 +1,5 @@
 // A part of a work area: its first cell, and how many cells it has.
-#[derive(Drop)]
+#[derive(Clone, Copy)]
 pub struct Part {
     pub start: u64,
     pub cells: u64,

@@ -1,4 +1,6 @@
 // Decoding, in one place: the command at a position of a tape. A command's operands are read only where the tape has them all.
+#![tactic(auto)]
+
 ghost use Rattle.std.specs.Prelude.{◌≡◌, ◌<◌, length, get_or};
 ghost use Rattle.tape_reading.specs.Readings.{Floating};
 ghost use Rattle.tape_spec.specs.Decoding.{meant, Known, decoding};

@@ -1,4 +1,6 @@
 // Reading a tape: a lent slice is filled with its points, once a scan has passed.
+#![tactic(auto)]
+
 ghost use Rattle.std.specs.Prelude.{◌≡◌, ◌+◌, ◌≤◌, ◌<◌, length, drop, replicate};
 ghost use Rattle.std.proofs.lemmas.List.Edits.{sets};
 ghost use Rattle.tape_spec.specs.Reading.{reading_refusal, filled_or, reading};

@@ -1,4 +1,6 @@
 // The operands of a command: numbers of two and of four bytes, the lowest byte first.
+#![tactic(auto)]
+
 ghost use Rattle.std.specs.Prelude.{◌≡◌, ◌+◌, ◌<◌, ◌≤◌, length, take, drop};
 ghost use Rattle.cube_spec.specs.Bytes.{little};
 

@@ -1,4 +1,6 @@
 // Readings: the point that each gives, in whole centimetres, from the float's bits. No float is added, multiplied or rounded here.
+#![tactic(auto)]
+
 ghost use Rattle.std.specs.Prelude.{◌≡◌, ◌*◌, ◌^◌, ◌<◌, ◌≤◌};
 ghost use Rattle.tape_reading.specs.Nearest as Nearest;
 ghost use Rattle.tape_reading.specs.Patterns.{parts};

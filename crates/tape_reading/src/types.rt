@@ -1,5 +1,5 @@
 // A reading as it arrives: whole centimetres, or metres or kilometres in single precision.
-#[derive(Drop)]
+#[derive(Clone, Copy)]
 pub enum Reading {
     Centimetres(i32),
     Metres(f32),

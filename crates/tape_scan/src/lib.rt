@@ -1,4 +1,6 @@
 // The scan of a tape: in one pass its form and its readings are judged, and what it holds is counted.
+#![tactic(auto)]
+
 ghost use Rattle.std.specs.Prelude.{◌≡◌, ◌≤◌, eqb, length, drop, set};
 ghost use Rattle.std.proofs.Math.Option.{none};
 ghost use Rattle.cube_spec.specs.Boxes.{pick};

@@ -1,6 +1,6 @@
 // What one scan of a tape tells: refusal 0 with how many axes the tape names, the first eight lengths, p, how many points
 // it holds and how many commands it has; or the refusal with nothing but zeros.
-#[derive(Drop)]
+#[derive(Clone, Copy)]
 pub struct Scan {
     pub refusal: u8,
     pub axes: u32,
@@ -11,7 +11,7 @@ pub struct Scan {
 }
 
 // The command at a position of a tape. The last number of each case is the position after the command.
-#[derive(Drop)]
+#[derive(Clone, Copy)]
 pub enum Command {
     // 41: an axis length.
     Axis(u16, usize),
@@ -29,7 +29,7 @@ pub enum Command {
 
 // How many points the rest of a tape holds, how many commands there were to its end, and the first refusal of a reading, 0
 // for none; if it keeps the form.
-#[derive(Drop)]
+#[derive(Clone, Copy)]
 pub enum Count {
     Whole(u64, u64, u8),
     Broken,

@@ -1,4 +1,6 @@
 // The program: reads a tape on standard input, plans, runs, and prints the report on standard output.
+#![tactic(auto)]
+
 mod loading;
 mod types;
 mod writing;

@@ -1,2 +1,4 @@
 // What the program asks of a tape before it runs.
+#![tactic(auto)]
+
 pub mod judging;

@@ -1,2 +1,4 @@
 // A run taken from one finish to the next.
+#![tactic(auto)]
+
 pub mod groups;

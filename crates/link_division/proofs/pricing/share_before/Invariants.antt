@@ -1,0 +1,14 @@
+-- `link_division::pricing::share_before` meets its contract.
+use Prim.Native.Nat.{◌≤◌, ◌-◌}
+use mathlib.Core.Path.{◌≡◌}
+use lib.ListN.{get_or}
+use Rattle.cube_spec.specs.Limits.{axis_limit}
+use Rattle.cube_spec.specs.Boxes.{product}
+use Rattle.link_spec.specs.Shares.{factor}
+use Rattle.link_division.proofs.pricing.share_before.Given as goal
+
+abbrev pub invariant-loop-j : goal.invariant-loop-j
+invariant-loop-j l = (l.j ≤ l.i) × (l.i ≤ axis_limit) × (l.r ≡ product (factor (λ d. get_or l.lens d 0) (λ d. get_or l.fares d 0) l.i) l.j 0)
+
+abbrev pub decreases-loop-j : goal.decreases-loop-j
+decreases-loop-j l = l.i - l.j
