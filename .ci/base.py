@@ -1,9 +1,10 @@
 #!/usr/bin/env python3
-"""Prints docs/BASE.md: the sizes of the crates as they stand, and the times, counts and ratios in a log of the gate.
+"""Prints docs/BASE.md: the sizes of the crates as they stand, and the verdicts, counts and ratios in a log of the gate.
 
     { time .ci/run; } >LOG 2>&1
     python3 .ci/base.py LOG >docs/BASE.md
 """
+import collections
 import pathlib
 import re
 import sys
@@ -13,15 +14,14 @@ log = pathlib.Path(sys.argv[1]).read_text(encoding='utf-8') if len(sys.argv) == 
 
 HEAD = '''# The base
 
-Numbers of the base, the 'before' of every later change. Sizes are those of this tree; times, counts and ratios are from one run of the gate on two
-cores. Printed by `python3 .ci/base.py LOG`, where LOG holds what `.ci/run` printed.
+Numbers of the base, the 'before' of every later change. Sizes are those of this tree; verdicts, counts and ratios are from one run of the gate.
+Printed by `python3 .ci/base.py LOG`, where LOG holds what `.ci/run` printed.
 
 ## Crates
 
 Lines that are neither blank nor a comment nor an import. Code is src/ without its clauses (`requires`, `ensures`), definitions are specs/, proofs are
-proofs/ with the tables of cases. Functions are those with a body. 'Proof' is the seconds of the crate's own check, with the crates under it already
-proved; 'edits' the sum over its must-fail edits, each a whole check of the crate. Four checks run at a time on two cores, so that each takes longer
-than alone.
+proofs/ with the tables of cases. Functions are those with a body. 'Proof' says whether the crate was proved in that run, or is kept: an earlier run on
+that machine proved the same files. 'Refused' counts the must-fail edits that the checker refused, in that run or an earlier one.
 '''
 
 
@@ -48,27 +48,24 @@ def row(cells):
     return '| ' + ' | '.join(f'{c:,}' if isinstance(c, int) else c for c in cells) + ' |'
 
 
-crates = re.findall(r'^(\w+):', (root / 'crates.txt').read_text(encoding='utf-8'), re.M)
-proved, edits = {}, {}
-for name, seconds in re.findall(r'^rt: (\w+) proved \((\d+) s\)', log, re.M):
-    proved.setdefault(name, int(seconds))
-for name, seconds in re.findall(r'^rt: must-fail (\w+)/\w+: refused.*; (\d+) s\)', log, re.M):
-    edits.setdefault(name, []).append(int(seconds))
+crates = re.findall(r'^(\w+)(?: staticlib)?:', (root / 'crates.txt').read_text(encoding='utf-8'), re.M)
+proved = {name: 'in this run' if how == 'proved' else 'kept' for name, how in re.findall(r'^rt: (\w+) (proved$|is kept:)', log, re.M)}
+edits = collections.Counter(re.findall(r'^rt: must-fail (\w+)/[\w.-]+: refused', log, re.M))
 
 print(HEAD)
-print(row(['crate', 'functions', 'code', 'clauses', 'definitions', 'proofs', 'must-fail edits', 'proof, s', 'edits, s']))
-print('|---' + '|---:' * 8 + '|')
-total = [0] * 8
+print(row(['crate', 'functions', 'code', 'clauses', 'definitions', 'proofs', 'must-fail edits', 'refused', 'proof']))
+print('|---' + '|---:' * 7 + '|---|')
+total = [0] * 7
 for crate in crates:
     at = root / 'crates' / crate
     source = lines(at.glob('src/**/*.rt'))
     functions = sum(bool(re.match(r'(pub )?(extern "C" )?fn ', line)) for line in source)
     stated = clauses(source)
     sizes = [functions, len(source) - stated, stated, len(lines(at.glob('specs/**/*.antt'))), len(lines(at.glob('proofs/**/*.antt'))), len(list(at.glob('must-fail/*.edit')))]
-    times = [proved.get(crate, 0), sum(edits.get(crate, []))]
-    total = [a + b for a, b in zip(total, sizes + times)]
-    print(row([f'`{crate}`'] + sizes + [times[0] if crate in proved else 'not in the log', times[1]]))
-print(row([f'{len(crates)} crates'] + total))
+    sizes.append(edits[crate])
+    total = [a + b for a, b in zip(total, sizes)]
+    print(row([f'`{crate}`'] + sizes + [proved.get(crate, 'not in the log')]))
+print(row([f'{len(crates)} crates'] + total + [f'{len(proved)} proved']))
 
 print('\n## Counts\n')
 print(row(['part of the gate', 'passed', 'failed']))

@@ -15,7 +15,8 @@ import sys
 root = pathlib.Path(__file__).resolve().parent.parent
 text = (root / 'docs/PROMISES.md').read_text(encoding='utf-8')
 declared = {}
-for file in root.glob('crates/*/*/**/*.antt'):
+# rt keeps copies of these in out/
+for file in [*root.glob('crates/*/specs/**/*.antt'), *root.glob('crates/*/proofs/**/*.antt')]:
     body = file.read_text(encoding='utf-8')
     names = re.findall(r'^\s*(?:unfoldable |abbrev |pub )*([^\s:(]+) (?:\{[^}]*\} )?:', body, re.M)
     names += re.findall(r'^\s*(?:pub )?(?:data|record) (\S+)', body, re.M)

@@ -19,9 +19,9 @@ struct Case {
 const STEPS: &str = "\
 -- Small plans with their steps, and what each board holds at each position. Written by `compare table steps`.
 use Prim.Native.Nat.{ℕ}
-use mathlib.Core.List.{List, [], _∷_}
-use Rattle·plan_spec.specs.Plans.{PlanLists}
-use Rattle·rack_spec·specs.specs.Answers.{Told, expands, transfers, finishes}
+use mathlib.Core.List.{List, [], ◌∷◌}
+use Rattle.plan_spec.specs.Plans.{PlanLists}
+use Rattle.rack_spec.specs.Answers.{Told, expands, transfers, finishes}
 
 -- `held` has a list for each board, from position 0 to T
 pub record Case : Type 0 where
@@ -33,9 +33,9 @@ pub record Case : Type 0 where
 const MEMORY: &str = "\
 -- Small plans with an array, a work area of any contents, and that work area after each step. Written by `compare table memory`.
 use Prim.Native.Nat.{ℕ}
-use mathlib.Core.List.{List, [], _∷_}
+use mathlib.Core.List.{List, [], ◌∷◌}
 use lib.IntN.{ℤ, pos, negsuc}
-use Rattle·plan_spec.specs.Plans.{PlanLists}
+use Rattle.plan_spec.specs.Plans.{PlanLists}
 
 -- `gathered` and `viewed` have an item for each finish; a view has a part for each board
 pub record Case : Type 0 where
@@ -174,12 +174,12 @@ fn cases() -> Vec<Case> {
         },
     };
     vec![
-        case("one-axis", "one axis cut unevenly", &[6], &[0], &[2]),
-        case("longer-axis-second", "the longer axis second", &[3, 5], &[1, 0], &[0, 1]),
-        case("both-split", "shortest axis first, both split", &[3, 2], &[1, 0], &[1, 1]),
+        case("one_axis", "one axis cut unevenly", &[6], &[0], &[2]),
+        case("longer_axis_second", "the longer axis second", &[3, 5], &[1, 0], &[0, 1]),
+        case("both_split", "shortest axis first, both split", &[3, 2], &[1, 0], &[1, 1]),
         case("uneven", "an axis cut unevenly, and the last one", &[7, 2], &[0, 1], &[2, 1]),
-        case("spare-two", "two spare points among four portions", &[6, 2], &[1, 0], &[2, 1]),
+        case("spare_two", "two spare points among four portions", &[6, 2], &[1, 0], &[2, 1]),
         case("undivided", "one board, three axes", &[2, 3, 2], &[1, 2, 0], &[0, 0, 0]),
-        case("three-axes", "the last and the first axis split", &[2, 3, 3], &[2, 0, 1], &[0, 1, 1]),
+        case("three_axes", "the last and the first axis split", &[2, 3, 3], &[2, 0, 1], &[0, 1, 1]),
     ]
 }

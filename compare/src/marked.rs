@@ -9,8 +9,8 @@ const OPENING: &str = "\
 -- `compare table marks`, which says yes where no selection of parents for the choices adds up fewer, and does not look at neighbours.
 use Prim.Native.Nat.{ℕ}
 use mathlib.Core.Bool.{Bool, true, false}
-use mathlib.Core.List.{List, [], _∷_}
-use Rattle·plan_spec·specs.specs.Plans.{PlanLists}
+use mathlib.Core.List.{List, [], ◌∷◌}
+use Rattle.plan_spec.specs.Plans.{PlanLists}
 
 pub record Row : Type 0 where
   pub plan : PlanLists
@@ -65,23 +65,23 @@ fn orders(lengths: &[u64], exponents: &[u32]) -> Vec<Plan> {
 fn every_order() -> Vec<Group> {
     vec![
         Group {
-            name: "one-axis",
+            name: "one_axis",
             says: "one axis, which has no neighbour",
             plans: [orders(&[1], &[0]), orders(&[5], &[2])].concat(),
         },
         Group {
-            name: "two-axes",
+            name: "two_axes",
             says: "two axes in every order: of unequal lengths, of equal ones, and one of length 1",
             plans: [orders(&[3, 2], &[1, 1]), orders(&[2, 2], &[1, 0]), orders(&[1, 4], &[0, 2])]
                 .concat(),
         },
         Group {
-            name: "three-axes",
+            name: "three_axes",
             says: "three axes in every order: two of them equal, and one of length 1",
             plans: [orders(&[2, 3, 2], &[1, 0, 1]), orders(&[1, 4, 3], &[0, 1, 1])].concat(),
         },
         Group {
-            name: "four-axes",
+            name: "four_axes",
             says: "four axes in every order: two of them equal, and one of length 1",
             plans: orders(&[2, 1, 3, 2], &[1, 0, 1, 0]),
         },
@@ -92,7 +92,7 @@ fn every_order() -> Vec<Group> {
 fn told_apart() -> Vec<Group> {
     vec![
         Group {
-            name: "not-strictly",
+            name: "not_strictly",
             says: "equal neighbours first, last, between and everywhere: lengths need not fall",
             plans: vec![
                 plan(&[3, 3, 2], &[0, 1, 2], &[1, 0, 1]),
@@ -102,7 +102,7 @@ fn told_apart() -> Vec<Group> {
             ],
         },
         Group {
-            name: "not-by-axis-number",
+            name: "not_by_axis_number",
             says: "lengths that rise by axis number, and not along the order; and the other way",
             plans: vec![
                 plan(&[2, 3, 4], &[2, 1, 0], &[0, 1, 1]),
@@ -110,7 +110,7 @@ fn told_apart() -> Vec<Group> {
             ],
         },
         Group {
-            name: "not-the-first-two",
+            name: "not_the_first_two",
             says: "a rise after the first two axes, by one and by more",
             plans: vec![
                 plan(&[4, 2, 3], &[0, 1, 2], &[1, 1, 0]),
@@ -118,7 +118,7 @@ fn told_apart() -> Vec<Group> {
             ],
         },
         Group {
-            name: "not-the-planners-alone",
+            name: "not_the_planners_alone",
             says: "equal axes in another order than the planner's",
             plans: vec![
                 plan(&[3, 3], &[1, 0], &[1, 0]),
@@ -127,7 +127,7 @@ fn told_apart() -> Vec<Group> {
             ],
         },
         Group {
-            name: "not-by-portions",
+            name: "not_by_portions",
             says: "portions that rise where lengths fall, and that fall where lengths rise",
             plans: vec![plan(&[5, 4], &[0, 1], &[2, 0]), plan(&[4, 5], &[0, 1], &[0, 2])],
         },
@@ -144,7 +144,7 @@ fn rises() -> Group {
         plan(&lengths, &[shorter, longer].concat(), &exponents)
     };
     Group {
-        name: "eight-axes",
+        name: "eight_axes",
         says: "eight axes: no rise, and one before each place but the first",
         plans: (0..lengths.len()).map(rising_at).collect(),
     }
@@ -159,12 +159,12 @@ fn divided() -> Vec<Group> {
     };
     vec![
         Group {
-            name: "divided-falling",
+            name: "divided_falling",
             says: "an order that never rises, on 1, 4 and 32 boards in every division",
             plans: divided(&[1, 0, 2]),
         },
         Group {
-            name: "divided-rising",
+            name: "divided_rising",
             says: "an order that rises, on the same boards",
             plans: divided(&[1, 2, 0]),
         },

@@ -16,9 +16,9 @@ const OPENING: &str = "\
 -- Readings and what each gives, by the border that it lies at. Written by `compare table readings`, which works in double precision,
 -- where the product with the scale is exact.
 use Prim.Native.Nat.{ℕ}
-use mathlib.Core.List.{List, [], _∷_}
+use mathlib.Core.List.{List, [], ◌∷◌}
 use lib.IntN.{ℤ, pos, negsuc}
-use Rattle·cube_spec.specs.Checks.{Reply, gives, refuses}
+use Rattle.cube_spec.specs.Checks.{Reply, gives, refuses}
 
 -- a command, the four bytes of its operand as a number, and what it gives
 pub record Row : Type 0 where
@@ -64,7 +64,7 @@ fn at_borders() -> Vec<Group> {
             [0.125, 0.375, -0.125, 0.0, -0.0].map(spell::metres).to_vec(),
         ),
         group(
-            "zero-or-one",
+            "zero_or_one",
             "the last pattern that gives 0 and the first that does not",
             with_each_sign(|unit| around(first(unit, |due| due != Ok(0)))),
         ),
@@ -91,7 +91,7 @@ fn elsewhere() -> Vec<Group> {
             with_each_sign(|_| [vec![0, 1], around(NORMAL)].concat()),
         ),
         group(
-            "not-finite",
+            "not_finite_lem",
             "infinity, and the first and the last pattern that is no number",
             with_each_sign(|unit| vec![infinite(unit), infinite(unit) + 1, SIGN - 1]),
         ),

@@ -9,7 +9,7 @@ use crate::tape::{self, Run};
 const OPENING: &str = "\
 -- Small tapes with what a scan tells of each. Written by `compare table scans`, which makes lists of what it reads and counts these.
 use Prim.Native.Nat.{ℕ}
-use mathlib.Core.List.{List, [], _∷_}
+use mathlib.Core.List.{List, [], ◌∷◌}
 
 -- `refusal` is 0 for a tape that is taken, and all else is 0 where it is not; `lengths` has the first eight, and 0 past the last axis
 pub record Scanned : Type 0 where

@@ -17,9 +17,9 @@ const OPENING: &str = "\
 -- Small tapes, none of them a case of P1 to P10, with what the program prints for each, and tapes at its limits with what it refuses.
 -- Written by `compare table tapes`, which works the output out by direct sums of its own.
 use Prim.Native.Nat.{ℕ}
-use mathlib.Core.List.{List, [], _∷_}
+use mathlib.Core.List.{List, [], ◌∷◌}
 use lib.ListN.{replicate}
-use Rattle·report_spec·specs.specs.Text.{text}
+use Rattle.report_spec.specs.Text.{text}
 
 pub record Case : Type 0 where
   pub tape : List ℕ
@@ -129,34 +129,34 @@ fn accepted() -> Vec<Case> {
     let lowest = i32::MIN;
     vec![
         case(
-            "longer-axis-second",
+            "longer_axis_second",
             "lengths 2, 5, p 1: the longer axis second",
             tape(&[2, 5], 1, &[1, -2, 3, 4, 5, -6, 0, 7, -8, 9]),
         ),
-        case("one-axis", "length 6, p 2: one axis", tape(&[6], 2, &[7, 0, -1, 12, 3, -40])),
+        case("one_axis", "length 6, p 2: one axis", tape(&[6], 2, &[7, 0, -1, 12, 3, -40])),
         case(
-            "three-axes",
+            "three_axes",
             "lengths 3, 2, 2, p 2: three axes, points by a 52",
             spell::tape(&[3, 2, 2], 2, vec![repeated(3, 5), spell::point(-7), repeated(8, 1)]),
         ),
         case(
-            "lowest-points",
+            "lowest_points",
             "length 6, p 1: six points of -2147483648",
             tape(&[6], 1, &[lowest; 6]),
         ),
         case(
-            "both-axes-split",
+            "both_axes_split",
             "lengths 2, 2, p 2: both axes split",
             tape(&[2, 2], 2, &[1, 10, 100, 100000]),
         ),
-        case("two-axes-of-one", "lengths 1, 1, p 0: two axes of length 1", tape(&[1, 1], 0, &[-9])),
+        case("two_axes_of_one", "lengths 1, 1, p 0: two axes of length 1", tape(&[1, 1], 0, &[-9])),
         case(
-            "middle-axis-longest",
+            "middle_axis_longest",
             "lengths 2, 3, 2, p 1: the middle axis longest, negative points",
             tape(&[2, 3, 2], 1, &[-1, -2, -3, -4, -5, -6, -7, -8, -9, 10, 11, -12]),
         ),
         case(
-            "readings-of-all-kinds",
+            "readings_of_all_kinds",
             "lengths 2, 3, p 1: points by a 4D, a 52, a 4B, a 4D and a 56",
             spell::tape(&[2, 3], 1, readings_of_all_kinds()),
         ),
@@ -165,7 +165,7 @@ fn accepted() -> Vec<Case> {
 
 fn accepted_with_idle() -> Case {
     Case {
-        name: "boards-idle",
+        name: "boards_idle",
         says: "lengths 3, 2, p 3, of which 2 is used: four boards idle",
         tape: tape(&[3, 2], 3, &[1, 2, 3, 4, 5, 6]),
     }
@@ -181,18 +181,18 @@ fn refused() -> Vec<Case> {
     let case = |name, says, tape| Case { name, says, tape };
     let longest = vec![repeated(65535, 0)];
     vec![
-        case("no-end", "refused 2: no 45", without_end(tape(&[2], 1, &[1, 2]))),
-        case("no-axes", "refused 3: no 41", tape(&[], 0, &[1])),
-        case("zero-length", "refused 4: a length of 0", tape(&[2, 0], 0, &[])),
-        case("too-many-points", "refused 5: lengths 2048, 8193", tape(&[2048, 8193], 0, &[1])),
-        case("high-p", "refused 6: p 11", tape(&[4096], 11, &[])),
+        case("no_end", "refused 2: no 45", without_end(tape(&[2], 1, &[1, 2]))),
+        case("no_axes", "refused 3: no 41", tape(&[], 0, &[1])),
+        case("zero_length", "refused 4: a length of 0", tape(&[2, 0], 0, &[])),
+        case("too_many_points_lem", "refused 5: lengths 2048, 8193", tape(&[2048, 8193], 0, &[1])),
+        case("high_p", "refused 6: p 11", tape(&[4096], 11, &[])),
         case(
-            "point-missing",
+            "point_missing",
             "refused 10: lengths 2, 2 and three points",
             tape(&[2, 2], 1, &[1, 2, 3]),
         ),
         case(
-            "past-the-program",
+            "past_the_program",
             "refused 11: length 65535 and as many points",
             spell::tape(&[65535], 0, longest),
         ),
@@ -204,36 +204,36 @@ fn refused_for_the_first_of_several() -> Vec<Case> {
     let nine_thousand = |p| spell::tape(&[2], p, vec![repeated(8999, 1), repeated(1, 2)]);
     vec![
         case(
-            "form-before-length",
+            "form_before_length",
             "refused 2: no 45, and a length of 0",
             without_end(tape(&[0], 0, &[])),
         ),
         case(
-            "axes-before-length",
+            "axes_before_length",
             "refused 3: nine axes, one of length 0, and p 200",
             tape(&[1, 1, 1, 1, 0, 1, 1, 1, 1], 200, &[]),
         ),
         case(
-            "length-before-product",
+            "length_before_product",
             "refused 4: a length of 0 after 65535 twice, and p 11",
             tape(&[65535, 65535, 0], 11, &[]),
         ),
         case(
-            "product-before-p",
+            "product_before_p",
             "refused 5: lengths 65535 twice, and p 11",
             tape(&[65535, 65535], 11, &[]),
         ),
         case(
-            "p-before-points",
+            "p_before_points",
             "refused 6: p 11 for length 2, and one point",
             tape(&[2], 11, &[1]),
         ),
         case(
-            "idle-before-points",
+            "idle_before_points",
             "refused 10: p 2 for length 2, of which 1 is used, and 9000 points",
             nine_thousand(2),
         ),
-        case("points-before-limit", "refused 10: 9000 points for length 2", nine_thousand(0)),
+        case("points_before_limit", "refused 10: 9000 points for length 2", nine_thousand(0)),
     ]
 }
 
@@ -245,34 +245,34 @@ fn equal(lengths: &[u16], p: u8, count: u16) -> Vec<u8> {
 fn limits() -> Vec<Case> {
     let case = |name, says, tape| Case { name, says, tape };
     vec![
-        case("most-points", "taken: 8192 points", equal(&[8192], 0, 8192)),
+        case("most_points", "taken: 8192 points", equal(&[8192], 0, 8192)),
         case(
-            "one-point-more",
+            "one_point_more",
             "refused 11: 8193 points, and a work area of one cell",
             equal(&[8193], 0, 8193),
         ),
         case(
-            "most-cells",
+            "most_cells",
             "taken: a work area of 8192 cells on one board",
             equal(&[8191, 1], 0, 8191),
         ),
         case(
-            "one-cell-more",
+            "one_cell_more",
             "refused 11: a work area of 8193 cells, and 8192 points",
             equal(&[8192, 1], 0, 8192),
         ),
         case(
-            "most-shares",
+            "most_shares",
             "taken: 1024 boards of 8 cells each",
             equal(&[17, 9, 8], 10, 17 * 9 * 8),
         ),
         case(
-            "one-cell-a-share-more",
+            "one_cell_a_share_more",
             "refused 11: 1024 boards of 9 cells each, and 8192 points",
             equal(&[8192, 1], 10, 8192),
         ),
-        case("longest-tape", "refused 2: 65536 bytes, and no command", vec![0; LONGEST_TAPE]),
-        case("one-byte-more", "refused 1: 65537 bytes, and no command", vec![0; LONGEST_TAPE + 1]),
+        case("longest_tape_lem", "refused 2: 65536 bytes, and no command", vec![0; LONGEST_TAPE]),
+        case("one_byte_more", "refused 1: 65537 bytes, and no command", vec![0; LONGEST_TAPE + 1]),
     ]
 }
 
@@ -281,12 +281,12 @@ fn limits_with_idle() -> Vec<Case> {
     let case = |name, says, tape| Case { name, says, tape };
     vec![
         case(
-            "most-shares-in-use",
+            "most_shares_in_use",
             "taken: 256 boards of 32 cells each, and 768 idle",
             equal(&[7, 7, 7, 7], 10, 2401),
         ),
         case(
-            "in-use-past-the-limit",
+            "in_use_past_the_limit",
             "refused 11: 256 boards of 48 cells each, and 256 idle",
             equal(&[7, 7, 7, 7, 1], 9, 2401),
         ),
@@ -299,32 +299,32 @@ fn refused_for_a_reading() -> Vec<Case> {
     let (infinite, far) = (|| metres(f32::NEG_INFINITY), || kilometres(21_474.838));
     vec![
         case(
-            "infinite-reading",
+            "infinite_reading",
             "refused 14: an infinite reading",
             spell::tape(&[2], 1, vec![spell::point(1), infinite()]),
         ),
         case(
-            "far-reading",
+            "far_reading",
             "refused 15: the first number of kilometres past the range",
             spell::tape(&[2], 1, vec![spell::point(1), far()]),
         ),
         case(
-            "infinite-before-far",
+            "infinite_before_far",
             "refused 14: an infinite reading, and one past the range after it",
             spell::tape(&[2], 1, vec![infinite(), far()]),
         ),
         case(
-            "far-before-infinite",
+            "far_before_infinite",
             "refused 15: a reading past the range, and an infinite one after it",
             spell::tape(&[2], 1, vec![far(), infinite()]),
         ),
         case(
-            "form-before-reading",
+            "form_before_reading",
             "refused 2: an infinite reading, and a 52 with count 0 after it",
             spell::tape(&[2], 1, vec![infinite(), repeated(0, 1)]),
         ),
         case(
-            "reading-before-length",
+            "reading_before_length",
             "refused 14: an infinite reading, and a length of 0",
             spell::tape(&[0], 1, vec![infinite()]),
         ),

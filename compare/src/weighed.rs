@@ -9,7 +9,7 @@ const OPENING: &str = "\
 -- exponents in axis order, the cost, the distance and how many divisions were priced. Written by `compare table links`, which lists the
 -- divisions, sorts them, and prices each by a sum over every choice.
 use Prim.Native.Nat.{ℕ}
-use mathlib.Core.List.{List, [], _∷_}
+use mathlib.Core.List.{List, [], ◌∷◌}
 
 pub record Row : Type 0 where
   pub lengths : List ℕ
@@ -73,28 +73,28 @@ const ENOUGH: u64 = 99;
 fn budgets() -> Vec<Group> {
     vec![
         Group {
-            name: "one-axis",
+            name: "one_axis",
             says: "one axis, which has one division for any number of boards",
             requests: [every_budget(&[5], 2, &[7]), every_budget(&[1], 0, &[1_000])].concat(),
         },
         Group {
-            name: "two-axes",
+            name: "two_axes",
             says: "two axes with every budget up to one more than there are divisions",
             requests: [every_budget(&[4, 9], 3, &[1, 5]), every_budget(&[5, 4], 2, &[9, 2])]
                 .concat(),
         },
         Group {
-            name: "three-axes",
+            name: "three_axes",
             says: "three axes with every such budget: the answer changes with most divisions",
             requests: every_budget(&[4, 5, 3], 3, &[2, 7, 30]),
         },
         Group {
-            name: "four-axes",
+            name: "four_axes",
             says: "four axes with every such budget: the planner's division is dear",
             requests: every_budget(&[2, 3, 4, 2], 3, &[3, 9, 40, 5]),
         },
         Group {
-            name: "large-budgets",
+            name: "large_budgets",
             says: "budgets past 2^32, and the largest in 64 bits",
             requests: [1 << 32, (1 << 32) + 1, u64::MAX]
                 .map(|budget| request(&[4, 5], 2, &[3, 2], budget))
@@ -106,7 +106,7 @@ fn budgets() -> Vec<Group> {
 fn divisions() -> Vec<Group> {
     vec![
         Group {
-            name: "boards-idle",
+            name: "boards_idle",
             says: "more boards than the axes can be divided for, and as many",
             requests: vec![
                 request(&[3, 2], 3, &[4, 9], ENOUGH),
@@ -116,7 +116,7 @@ fn divisions() -> Vec<Group> {
             ],
         },
         Group {
-            name: "whole-portions",
+            name: "whole_portions",
             says: "axes cut in as many portions as they have points, and one point shorter",
             requests: vec![
                 request(&[4, 8], 3, &[1, 50], ENOUGH),
@@ -125,7 +125,7 @@ fn divisions() -> Vec<Group> {
             ],
         },
         Group {
-            name: "axis-order",
+            name: "axis_order",
             says: "the longest axis last or in the middle: nothing is in the planner's order",
             requests: vec![
                 request(&[2, 4, 9], 3, &[30, 9, 1], ENOUGH),
@@ -140,7 +140,7 @@ fn divisions() -> Vec<Group> {
 fn prices() -> Vec<Group> {
     vec![
         Group {
-            name: "cheapest-parents",
+            name: "cheapest_parents",
             says: "one division each: the cheapest axis first, in the middle, last, and undivided",
             requests: vec![
                 request(&[4, 2, 2], 4, &[1, 8, 9], ENOUGH),
@@ -150,7 +150,7 @@ fn prices() -> Vec<Group> {
             ],
         },
         Group {
-            name: "unequal-links",
+            name: "unequal_links",
             says: "the same axes with the dear link first, in the middle and last",
             requests: vec![
                 request(&[4, 4, 4], 3, &[50, 3, 2], ENOUGH),
@@ -159,7 +159,7 @@ fn prices() -> Vec<Group> {
             ],
         },
         Group {
-            name: "equal-links",
+            name: "equal_links",
             says: "equal links: the planner's values moved times the link, and the planner's division or one that costs the same",
             requests: vec![
                 request(&[9, 5, 3], 4, &[1, 1, 1], ENOUGH),
@@ -193,7 +193,7 @@ fn answers() -> Vec<Group> {
             ],
         },
         Group {
-            name: "many-axes",
+            name: "many_axes",
             says: "five to eight axes, with few boards and with almost all that there can be",
             requests: vec![
                 request(&[2, 1, 3, 2, 4], 3, &[9, 1, 4, 16, 25], 4),
@@ -255,7 +255,7 @@ fn taken_or_not() -> Vec<Group> {
 fn refusals() -> Vec<Group> {
     vec![
         Group {
-            name: "before-six",
+            name: "before_six",
             says: "refused for the first of two: 3 before 4, 5, 6, 18 and 19, then 4 before 5, 6, 18 and 19",
             requests: vec![
                 request(&nine(0), 0, &nine(1), 1),
@@ -270,7 +270,7 @@ fn refusals() -> Vec<Group> {
             ],
         },
         Group {
-            name: "from-five-on",
+            name: "from_five_on",
             says: "5 before 6, 18 and 19, 6 before 18 and 19, 18 before 19, and all at once",
             requests: vec![
                 request(&[4_096, 4_097], 11, &[1, 1], 1),

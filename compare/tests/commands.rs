@@ -219,7 +219,7 @@ fn table_has_readings_of_all_kinds() {
     let due = r#"; output = text "plan 2 1 2 14 4\ndim 1 3 1\ndim 0 2 0\ngroup 2 -1524 -107 -2\ngroup 0 -1633\ngroup 1 24 -1657\nend 3\n" }"#;
     let module = table::module();
     let cases = declared(&module, "Case");
-    let case = cases.iter().find(|case| case.0 == "readings-of-all-kinds").unwrap();
+    let case = cases.iter().find(|case| case.0 == "readings_of_all_kinds").unwrap();
     assert!(case.2.ends_with(due), "{}", case.2);
 }
 
@@ -229,7 +229,7 @@ fn table_has_a_rack_larger_than_the_campaign() {
     let due = r#"; output = text "plan 2 2 6 14 3\ndim 0 3 1\ndim 1 2 1\ngroup 1 3 7 11\ngroup 0 21\ngroup 2 9 12\nend 3\n" }"#;
     let module = table::module();
     let cases = declared(&module, "Case");
-    let case = cases.iter().find(|case| case.0 == "boards-idle").unwrap();
+    let case = cases.iter().find(|case| case.0 == "boards_idle").unwrap();
     assert!(case.2.ends_with(due), "{}", case.2);
     assert!(!module.contains("refused 7"));
 }

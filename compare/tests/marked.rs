@@ -98,10 +98,10 @@ fn every_order_has_a_row() {
     let module = marked::module();
     let rows = rows(&module);
     for (group, lengths) in [
-        ("one-axis", &[&[1][..], &[5]][..]),
-        ("two-axes", &[&[3, 2], &[2, 2], &[1, 4]]),
-        ("three-axes", &[&[2, 3, 2], &[1, 4, 3]]),
-        ("four-axes", &[&[2, 1, 3, 2]]),
+        ("one_axis", &[&[1][..], &[5]][..]),
+        ("two_axes", &[&[3, 2], &[2, 2], &[1, 4]]),
+        ("three_axes", &[&[2, 3, 2], &[1, 4, 3]]),
+        ("four_axes", &[&[2, 1, 3, 2]]),
     ] {
         let listed: Vec<&Plan> =
             rows.iter().filter(|row| row.group == group).map(|row| &row.plan).collect();
@@ -128,10 +128,10 @@ fn rows_tell_wrong_marks_apart() {
         assert!(long.filter(seen).count() >= 3, "{name}");
     }
     let groups = [
-        ("not-strictly", "strictly falling"),
-        ("not-by-axis-number", "in axis order"),
-        ("not-the-first-two", "the first two axes"),
-        ("not-the-planners-alone", "the planner's order only"),
+        ("not_strictly", "strictly falling"),
+        ("not_by_axis_number", "in axis order"),
+        ("not_the_first_two", "the first two axes"),
+        ("not_the_planners_alone", "the planner's order only"),
     ];
     for (group, name) in groups {
         let (_, wrong) = WRONG.into_iter().find(|wrong| wrong.0 == name).unwrap();
@@ -148,7 +148,7 @@ fn rows_tell_wrong_marks_apart() {
 fn portions_would_say_otherwise() {
     let module = marked::module();
     let rows = rows(&module);
-    let of_group = rows.iter().filter(|row| row.group == "not-by-portions");
+    let of_group = rows.iter().filter(|row| row.group == "not_by_portions");
     let otherwise = |Row { plan, fewest, .. }: &Row| {
         let portion = |&axis: &usize| plan.lengths[axis].div_ceil(1 << plan.exponents[axis]);
         let portions: Vec<u64> = plan.order.iter().map(portion).collect();
@@ -167,7 +167,7 @@ fn eight_axes_rise_at_every_place() {
         let along: Vec<u64> = plan.order.iter().map(|&axis| plan.lengths[axis]).collect();
         (1..along.len()).filter(|&place| along[place] > along[place - 1]).collect()
     };
-    let of_group = rows.iter().filter(|row| row.group == "eight-axes");
+    let of_group = rows.iter().filter(|row| row.group == "eight_axes");
     let rises: Vec<Vec<usize>> = of_group.map(rises).collect();
     let due: Vec<Vec<usize>> =
         (0..8).map(|place| (1..8).filter(|&at| at == place).collect()).collect();
@@ -178,7 +178,7 @@ fn eight_axes_rise_at_every_place() {
 fn divisions_of_one_order_have_one_mark() {
     let module = marked::module();
     let rows = rows(&module);
-    for (group, fewest) in [("divided-falling", true), ("divided-rising", false)] {
+    for (group, fewest) in [("divided_falling", true), ("divided_rising", false)] {
         let of_group: Vec<&Row> = rows.iter().filter(|row| row.group == group).collect();
         assert!(of_group.iter().all(|row| row.fewest == fewest), "{group}");
         assert!(of_group.iter().all(|row| row.plan.order == of_group[0].plan.order), "{group}");

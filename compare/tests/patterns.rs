@@ -89,7 +89,7 @@ request =
     assert!(module.contains(request));
     let mut names: Vec<&str> = rows(&module).iter().map(|row| row.group).collect();
     names.dedup();
-    let due = "request zero-or-one ties range smallest not-finite fields whole";
+    let due = "request zero_or_one ties range smallest not_finite_lem fields whole";
     assert_eq!(names.join(" "), due);
     for name in names {
         assert!(module.contains(&format!("\nunfoldable pub {name} : List Row\n{name} =\n")));
@@ -114,7 +114,7 @@ fn borders_are_between_neighbours() {
         );
         assert_eq!([chunk[0].exact(), chunk[2].exact()], due);
     };
-    for chunk in group(&rows, "zero-or-one").chunks(4) {
+    for chunk in group(&rows, "zero_or_one").chunks(4) {
         check(chunk, [Ok(0), Ok(1)]);
     }
     let ends = [Ok(2_147_483_600), Ok(2_147_483_594)];

@@ -73,8 +73,8 @@ fn groups_are_whole() {
     assert!(tiled.is_sorted_by(|before, after| before < after));
     assert_eq!(tiled.len(), 60);
     assert!(cuts("longest").iter().all(|&(length, count)| length >= 1_000 && count <= 64));
-    assert!(cuts("empty-ones").iter().all(|(length, count)| length < count));
-    assert_eq!(rows.len(), 328 + 60 + cuts("longest").len() + cuts("empty-ones").len());
+    assert!(cuts("empty_ones").iter().all(|(length, count)| length < count));
+    assert_eq!(rows.len(), 328 + 60 + cuts("longest").len() + cuts("empty_ones").len());
 }
 
 #[test]
@@ -120,7 +120,7 @@ fn steps_and_memory_tell_wrong_rules_apart() {
     for wrong in Wrong::ALL {
         for listed in [listed::steps_by as Listed, listed::memory_by] {
             let told = told(listed, wrong);
-            assert!(told.contains(&"spare-two") && !told.contains(&"undivided"), "{told:?}");
+            assert!(told.contains(&"spare_two") && !told.contains(&"undivided"), "{told:?}");
         }
     }
 }

@@ -98,10 +98,10 @@ fn every_budget_has_a_row() {
     let module = weighed::module();
     let rows = rows(&module);
     for (group, numbers) in [
-        ("one-axis", &[1, 1][..]),
-        ("two-axes", &[3, 3]),
-        ("three-axes", &[5]),
-        ("four-axes", &[7]),
+        ("one_axis", &[1, 1][..]),
+        ("two_axes", &[3, 3]),
+        ("three_axes", &[5]),
+        ("four_axes", &[7]),
     ] {
         let budgets = rows.iter().filter(|row| row.group == group).map(|row| row.request.budget);
         let due = numbers.iter().flat_map(|&all| 1..=all + 1);
@@ -184,16 +184,16 @@ fn groups_tell_their_wrong_searches_apart() {
     let module = weighed::module();
     let rows = rows(&module);
     let groups: [(&str, &[Wrong]); 10] = [
-        ("large-budgets", &[Wrong::ShortBudget]),
-        ("boards-idle", &[Wrong::BoardsAskedFor]),
-        ("whole-portions", &[Wrong::ShorterPortions]),
-        ("axis-order", &[Wrong::ExponentsInPlanOrder, Wrong::LinksInPlanOrder]),
-        ("cheapest-parents", &[Wrong::DearestParent, Wrong::FirstParent, Wrong::LastParent]),
-        ("unequal-links", &[Wrong::ReversedLinks, Wrong::Unweighted]),
+        ("large_budgets", &[Wrong::ShortBudget]),
+        ("boards_idle", &[Wrong::BoardsAskedFor]),
+        ("whole_portions", &[Wrong::ShorterPortions]),
+        ("axis_order", &[Wrong::ExponentsInPlanOrder, Wrong::LinksInPlanOrder]),
+        ("cheapest_parents", &[Wrong::DearestParent, Wrong::FirstParent, Wrong::LastParent]),
+        ("unequal_links", &[Wrong::ReversedLinks, Wrong::Unweighted]),
         ("ties", &[Wrong::LastOfEquals]),
         ("distances", &[Wrong::LargestWeight, Wrong::NoWeight, Wrong::FirstWeight]),
-        ("many-axes", &[Wrong::DivisibleWeight, Wrong::OwnMoved]),
-        ("four-axes", &[Wrong::ZeroEarly, Wrong::ZeroLate, Wrong::PlannersAlone]),
+        ("many_axes", &[Wrong::DivisibleWeight, Wrong::OwnMoved]),
+        ("four_axes", &[Wrong::ZeroEarly, Wrong::ZeroLate, Wrong::PlannersAlone]),
     ];
     for (group, wrongs) in groups {
         for wrong in wrongs {

@@ -6,7 +6,7 @@ use crate::table::{list, row_group};
 const OPENING: &str = "\
 -- Axes cut in portions, each portion's positions counted. Written by `compare table portions`, which deals the positions out one by one.
 use Prim.Native.Nat.{ℕ}
-use mathlib.Core.List.{List, [], _∷_}
+use mathlib.Core.List.{List, [], ◌∷◌}
 
 -- an axis of this length cut in as many portions as the list is long
 pub record Cut : Type 0 where
@@ -22,7 +22,7 @@ pub fn module() -> String {
         group("divided", DIVIDED, divided()),
         group("tiled", TILED, tiled()),
         group("longest", LONGEST, longest()),
-        group("empty-ones", EMPTY_ONES, empty_ones()),
+        group("empty_ones", EMPTY_ONES, empty_ones()),
     ];
     OPENING.to_string() + &groups.concat()
 }

@@ -9,7 +9,7 @@ const OPENING: &str = "\
 -- Practice campaigns: what is printed for what is read, byte by byte; how larger exercises begin; and draws. Written by
 -- `compare table practice`, which splits the input at its first line feed and draws by products and quotients of wide numbers.
 use Prim.Native.Nat.{ℕ}
-use mathlib.Core.List.{List, [], _∷_}
+use mathlib.Core.List.{List, [], ◌∷◌}
 use lib.IntN.{ℤ, pos, negsuc}
 
 -- all that is printed, a tape or a refusal line
