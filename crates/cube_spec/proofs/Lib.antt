@@ -18,3 +18,4 @@ pub mod Masks
 pub mod Axes
 pub mod Dues
 pub mod Stores
+pub mod Numbers

@@ -8,4 +8,5 @@ pub mod Before
 pub mod Tree
 pub mod Ways
 pub mod Checks
+pub mod Refusals
 pub mod Computing

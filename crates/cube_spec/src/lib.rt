@@ -1,2 +1,3 @@
-// Definitions and laws of choices, boxes and the tree; the code of choices is in `cube_choice`.
 #![tactic(auto)]
+
+pub mod refusals;
