@@ -1,13 +1,8 @@
-use mathlib.Core.Path.{◌≡◌}
-use Prim.Native.Nat.{min}
-use native.Mathlib.Omega.{arith}
+use Rattle.std.proofs.Common.{arith}
+use Rattle.std.proofs.lemmas.Nat.{one_shl}
 use Rattle.cube_spec.specs.Choices.{full_mask}
 use Rattle.cube_choice.proofs.types.Choice.full.Goals as goal
 
-pub returns-then-axes-ge8 : goal.returns-then-axes-ge8
-unfolding full_mask
-returns-then-axes-ge8 c = let q : min c.args.axes 8 ≡ 8 = omega arith in rw q
-
 pub returns : goal.returns
 unfolding full_mask
-returns c = let q : min c.args.axes 8 ≡ c.args.axes = omega arith in rw (q, c.bit-b.ensures.0)
+returns c = rw (one_shl c.min.result 16 (omega arith), c.min.ensures)
