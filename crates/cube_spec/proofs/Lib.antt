@@ -19,3 +19,4 @@ pub mod Axes
 pub mod Dues
 pub mod Stores
 pub mod Numbers
+pub mod Answered
