@@ -1,17 +1,16 @@
 -- Boards by their labels, and cells by their positions: past this file no index is computed with.
 use Prim.Native.Nat.{ℕ, zero, suc, ◌+◌, ◌-◌, ◌≤◌, ◌<◌}
 use mathlib.Core.Path.{◌≡◌, sym, ◌∙◌, refl, ap}
-use mathlib.Core.Bool.{true}
 use mathlib.Core.List.{List, [], ◌∷◌}
-use native.Mathlib.Nat.{add-zero, le_refl}
+use native.Mathlib.Nat.{le_refl}
 use native.Mathlib.Numerals.{add-one}
 use native.Mathlib.Omega.{arith}
-use borrow.Author.Tests.{eqb-true, eqb-false, eq-eqb, ne_eqb, lt-ltb, le-ltb}
+use borrow.Author.Tests.{eqb-true, eqb-false, lt-ltb, le-ltb}
 use lib.Dec.{eqb}
-use Rattle.cube_spec.specs.Boxes.{sum_n, Within, pick, place, product, put}
+use Rattle.cube_spec.specs.Boxes.{sum_n, Within, place, put}
 use Rattle.cube_spec.specs.Tree as Tree
 use Rattle.cube_spec.specs.Tree.{has, kept, last_of}
-use Rattle.rack_spec.specs.Grids.{Grid, Lawful, board_of, boards, box, cell_at, cell_of, cells, extent, index, label, lead, region_from, region_of, region_size, region_start, share, board_with, with_label}
+use Rattle.rack_spec.specs.Grids.{Grid, Lawful, board_of, boards, box, cell_at, cell_of, cells, extent, index, label, region_from, region_of, region_size, region_start, share, board_with, with_label}
 use Rattle.cube_spec.proofs.Sums.{by, put_same, put_other}
 use Rattle.cube_spec.proofs.Products.{product_le}
 use Rattle.cube_spec.proofs.Boxing.{row_of, rest_of, product_cong, place_cong, place_lt, position_place, position_lt}

@@ -1,8 +1,8 @@
 -- The transfer that the code finds among those of a choice, and what a board forms.
-use Prim.Native.Nat.{ℕ, zero, suc, ◌+◌, ◌-◌, ◌*◌, ◌/◌, ◌%◌, ◌^◌, ◌≤◌, ◌<◌}
-use mathlib.Core.Path.{◌≡◌, sym, ◌∙◌, refl, ap, ap₂}
-use mathlib.Core.Bool.{Bool, true, false}
-use mathlib.Core.List.{List, [], ◌∷◌}
+use Prim.Native.Nat.{ℕ, zero, suc, ◌+◌, ◌-◌, ◌*◌, ◌/◌, ◌%◌, ◌^◌, ◌<◌}
+use mathlib.Core.Path.{◌≡◌, sym, ◌∙◌, refl, ap}
+use mathlib.Core.Bool.{true, false}
+use mathlib.Core.List.{List}
 use native.Mathlib.Nat.{div-lt_iff_lt-mul, mod-lt, mul-zero}
 use native.Mathlib.Numerals.{add-one}
 use native.Mathlib.Omega.{arith}
@@ -10,19 +10,18 @@ use borrow.Author.Tests.{eqb-true, eqb-false}
 use lib.Dec.{eqb}
 use lib.ListN.{length, get_or, set}
 use lib.Seq.{get_or-set_same, get_or-set_other}
-use Rattle.cube_spec.specs.Boxes.{pick, product, put}
-use Rattle.cube_spec.specs.Tree.{has, kept, last_of, parent_of}
+use Rattle.cube_spec.specs.Boxes.{put}
+use Rattle.cube_spec.specs.Tree.{has, kept, parent_of}
 use Rattle.cube_spec.proofs.Sums.{by, put_same, put_other}
 use Rattle.cube_spec.proofs.Boxing.{position_lt}
 use Rattle.cube_spec.proofs.Sets.{kept_has, kept_out}
 use Rattle.plan_spec.specs.declared.types.Plan.{Plan}
 use Rattle.plan_spec.specs.Accepted.{Accepted}
 use Rattle.plan_spec.proofs.PricingLaws.{few_axes}
-use Rattle.rack_spec.specs.Grids.{Grid, Lawful, summed, mask_of, boards, board_with, with_label, label, lead, cells}
-use Rattle.rack_spec.specs.Steps.{TreeStep, transfer}
+use Rattle.rack_spec.specs.Grids.{summed, mask_of, board_with, with_label, label, lead, cells}
 use Rattle.rack_spec.specs.Held.{own}
 use Rattle.rack_spec.specs.Finding.{plan_grid, summed_in, leads, lead_label, lead_at, found, Labels, Sending, Forming}
-use Rattle.rack_spec.specs.Answers.{Told, transfers, telling}
+use Rattle.rack_spec.specs.Answers.{transfers, telling}
 use Rattle.rack_spec.proofs.Tallied.{lawful, axes_same, parts_small}
 use Rattle.rack_spec.proofs.Masks.{mask_set}
 use Rattle.rack_spec.proofs.Planned.{label_with, board_same}

@@ -1,17 +1,15 @@
 -- What a board holds along a walk, part by part, as the code descends.
 use Prim.Native.Nat.{ℕ, zero, suc, ◌+◌, ◌-◌, ◌*◌, ◌≤◌, ◌<◌, min}
 use mathlib.Core.Path.{◌≡◌, sym, ◌∙◌, refl, ap, ap₂}
-use mathlib.Core.Bool.{Bool, true, false}
-use mathlib.Core.List.{List, [], ◌∷◌, ◌++◌}
-use native.Mathlib.Nat.{zero-add, add-zero, sub-zero}
+use mathlib.Core.List.{List, [], ◌∷◌}
+use native.Mathlib.Nat.{zero-add, sub-zero}
 use native.Mathlib.Omega.{arith}
-use borrow.Author.Tests.{eq-eqb, ne_eqb, lt-ltb, le-ltb}
-use lib.Dec.{eqb, ltb}
+use borrow.Author.Tests.{ne_eqb, lt-ltb, le-ltb}
+use lib.Dec.{ltb}
 use lib.ListN.{length, length-append}
 use Rattle.cube_spec.specs.Boxes.{pick}
 use Rattle.cube_spec.specs.Choices.{full_mask}
 use Rattle.cube_spec.specs.Limits.{axis_limit, point_limit}
-use Rattle.plan_spec.specs.Refusals.{plan_refusal}
 use Rattle.plan_spec.specs.declared.types.Plan.{Plan}
 use Rattle.plan_spec.specs.Accepted.{Accepted}
 use Rattle.rack_spec.specs.Grids.{Grid, boards}
@@ -23,7 +21,7 @@ use Rattle.rack_spec.proofs.Tallied.{axes_same}
 use Rattle.rack_spec.proofs.Alive.{held_walk_lem}
 use Rattle.rack_spec.proofs.Holding.{walk_over, held_start, visit_longer}
 use Rattle.rack_spec.proofs.Planned.{full_set}
-use Rattle.rack_spec.proofs.Seeking.{counted, kept_on, summed_out, child, child_set, sent_count, as_long, as_many, fuel}
+use Rattle.rack_spec.proofs.Seeking.{counted, summed_out, child, child_set, as_long, as_many, fuel}
 
 module _ (g : Grid) (b m d : ℕ) (Y : List ℕ) (at : ℕ) where
   abbrev siblings : ℕ

@@ -1,13 +1,9 @@
 -- A sound plan's grid is lawful.
-use Prim.Native.Nat.{ℕ, zero, suc, ◌+◌, ◌*◌, ◌^◌, ◌≤◌, ◌<◌}
-use mathlib.Core.Path.{◌≡◌, sym, ◌∙◌, refl, ap}
-use native.Mathlib.Omega.{arith}
-use lib.ListN.{length, get_or}
 use lib.Pow.{pow_pos}
 use Rattle.cube_spec.proofs.Portions.{portion_first, portion_last, portion_rising, portion_widest}
 use Rattle.plan_spec.specs.Plans.{PlanLists, Sound, most_at}
 use Rattle.plan_spec.proofs.Orders.{order_below, rank_below, rank_order, order_rank}
-use Rattle.rack_spec.specs.Grids.{Grid, Lawful, grid_of}
+use Rattle.rack_spec.specs.Grids.{Lawful, grid_of}
 
 pub grid_lawful : (a : PlanLists) → Sound a → Lawful (grid_of a)
 unfolding grid_of most_at

@@ -2,9 +2,9 @@
 use Prim.Native.Nat.{ℕ, zero, suc, ◌+◌, ◌-◌, ◌*◌, ◌/◌, ◌%◌, ◌≤◌, ◌<◌}
 use mathlib.Core.Path.{◌≡◌, sym, ◌∙◌, refl, ap, ap₂}
 use mathlib.Core.Bool.{Bool, true, false, ◌&&◌, ◌||◌, not}
-use mathlib.Core.Option.{Option, none, some}
+use mathlib.Core.Option.{some}
 use mathlib.Core.List.{List, [], ◌∷◌, ◌++◌, append_assoc, append-nil}
-use native.Mathlib.Nat.{zero-add, add-zero, add-suc, one-mul, mul-one, zero-mul, suc-mul, mod-eq_of_lt, div-eq_of_lt, div-one, mod-one, mod-lt}
+use native.Mathlib.Nat.{zero-add, add-zero, add-suc, one-mul, mul-one, zero-mul, suc-mul, div-one, mod-one, mod-lt}
 use native.Mathlib.Omega.{arith}
 use borrow.Author.Tests.{eqb-true, eqb-false, eq-eqb, ne_eqb, ltb-true, ltb-false}
 use lib.Dec.{eqb, ltb}
@@ -12,9 +12,8 @@ use lib.ListN.{length, length-append, get_elem?}
 use Rattle.cube_spec.specs.Boxes.{pick, product, place, position}
 use Rattle.cube_spec.specs.Tree.{has, kept, last_of}
 use Rattle.cube_spec.proofs.Sums.{by}
-use Rattle.cube_spec.proofs.Naturals.{both, clash}
+use Rattle.cube_spec.proofs.Naturals.{both}
 use Rattle.cube_spec.proofs.Boxing.{row_of, rest_of, place_cong}
-use Rattle.cube_spec.proofs.Products.{product_pos}
 use Rattle.cube_spec.proofs.Sets.{Down, down_lt, kept_has, kept_out}
 use Rattle.rack_spec.specs.Grids.{Grid, Lawful, boards, board_with, with_label, label, lead, cells}
 use Rattle.rack_spec.specs.Steps.{TreeStep, transfer, each, sends, transfers}

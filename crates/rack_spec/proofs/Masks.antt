@@ -2,10 +2,10 @@
 use Prim.Native.Nat.{ℕ, zero, suc, ◌+◌, ◌-◌, ◌^◌, ◌≤◌, ◌<◌}
 use mathlib.Core.Path.{◌≡◌, sym, ◌∙◌, refl, ap, ap₂}
 use mathlib.Core.Bool.{Bool, true, false, not}
-use mathlib.Core.List.{List, [], ◌∷◌, ◌++◌}
+use mathlib.Core.List.{List, [], ◌∷◌}
 use native.Mathlib.Nat.{zero-add, mod-eq_of_lt}
 use native.Mathlib.Omega.{arith}
-use borrow.Author.Tests.{eqb-true, eqb-false, eq-eqb, ne_eqb}
+use borrow.Author.Tests.{eqb-true, eqb-false, ne_eqb}
 use lib.Dec.{eqb}
 use lib.ListN.{length, get_or}
 use lib.Pow.{pow_pos}
@@ -13,7 +13,7 @@ use Rattle.cube_spec.specs.Boxes.{pick, sum_n, product}
 use Rattle.cube_spec.specs.Choices.{keeps, full_mask, kept_length, cells}
 use Rattle.cube_spec.specs.Tree.{has, kept, choice_cells}
 use Rattle.cube_spec.proofs.Sums.{by}
-use Rattle.cube_spec.proofs.Naturals.{clash, sum_n_cong}
+use Rattle.cube_spec.proofs.Naturals.{sum_n_cong}
 use Rattle.cube_spec.proofs.Digits.{powers, keeps_powers, powers_cong, powers_mod, powers_all, keeps_full}
 use Rattle.cube_spec.proofs.Boxing.{product_cong}
 use Rattle.cube_spec.proofs.Counting.{kept_length_lem, summed_length}

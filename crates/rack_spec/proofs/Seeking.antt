@@ -3,14 +3,13 @@ use Prim.Native.Nat.{ℕ, zero, suc, ◌+◌, ◌-◌, ◌*◌, ◌^◌, ◌≤�
 use mathlib.Core.Path.{◌≡◌, sym, ◌∙◌, refl, ap, ap₂}
 use mathlib.Core.Bool.{Bool, true, false, not}
 use mathlib.Core.List.{List, [], ◌∷◌, ◌++◌}
-use native.Mathlib.Nat.{zero-add, sub-zero, mul-one, le_refl, mul-le-mul}
-use native.Mathlib.Numerals.{add-one}
+use native.Mathlib.Nat.{zero-add, sub-zero, le_refl, mul-le-mul}
 use native.Mathlib.Omega.{arith}
-use borrow.Author.Tests.{eqb-true, eqb-false, leb-true, leb-false}
-use lib.Dec.{eqb, leb}
+use borrow.Author.Tests.{leb-true, leb-false}
+use lib.Dec.{leb}
 use lib.ListN.{length, get_or, get_elem?}
 use lib.Pow.{pow_pos}
-use Rattle.cube_spec.specs.Boxes.{pick, sum_n, product}
+use Rattle.cube_spec.specs.Boxes.{pick, product}
 use Rattle.cube_spec.specs.Choices.{keeps, full_mask, without_mask}
 use Rattle.cube_spec.specs.Limits.{axis_limit}
 use Rattle.cube_spec.specs.Tree.{has, kept, last_of, parent_of}
@@ -18,7 +17,7 @@ use Rattle.cube_spec.proofs.Sums.{by}
 use Rattle.cube_spec.proofs.Naturals.{clash, sum_n_but_one}
 use Rattle.cube_spec.proofs.Digits.{without_kept, without_summed}
 use Rattle.cube_spec.proofs.Products.{product_le, product_append, product_pos}
-use Rattle.cube_spec.proofs.Sets.{Down, down_up, down_out, has_head, has_other, kept_has, kept_out}
+use Rattle.cube_spec.proofs.Sets.{Down, down_out, has_head, has_other, kept_has, kept_out}
 use Rattle.plan_spec.specs.Refusals.{plan_refusal}
 use Rattle.plan_spec.specs.declared.types.Plan.{Plan}
 use Rattle.plan_spec.specs.Accepted.{Accepted}
@@ -30,7 +29,7 @@ use Rattle.rack_spec.specs.Finding.{plan_grid, summed_in, leads, found, Walking,
 use Rattle.rack_spec.specs.Answers.{Told, done, expands, finishes, telling, telling_or, told_at}
 use Rattle.rack_spec.proofs.Tallies.{labellings_kept, labellings_summed, labellings_leads, walk_count_lem}
 use Rattle.rack_spec.proofs.Tallied.{lawful, axes_same, boards_few, labellings_none}
-use Rattle.rack_spec.proofs.Masks.{mask_set, set_mask, root_mask}
+use Rattle.rack_spec.proofs.Masks.{mask_set, set_mask}
 use Rattle.rack_spec.proofs.Planned.{order_slot, has_slot, set_down, full_set}
 use Rattle.rack_spec.proofs.Leading.{inside, past, transfers_count, transfers_at}
 

@@ -7,9 +7,9 @@ use native.Mathlib.Omega.{arith}
 use lib.ListN.{length}
 use lib.Pow.{pow_pos}
 use Rattle.cube_spec.specs.Boxes.{product}
-use Rattle.cube_spec.specs.Tree.{kept, has, over_sets_from}
+use Rattle.cube_spec.specs.Tree.{kept, over_sets_from}
 use Rattle.rack_spec.specs.Grids.{Grid, Lawful}
-use Rattle.rack_spec.specs.Steps.{steps, walk}
+use Rattle.rack_spec.specs.Steps.{walk}
 use Rattle.rack_spec.specs.Counts.{span, labellings, sendings, marks, walk_count}
 use Rattle.cube_spec.proofs.Boxing.{product_cong}
 use Rattle.cube_spec.proofs.Products.{product_append, product_last}

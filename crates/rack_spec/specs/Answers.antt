@@ -1,18 +1,16 @@
--- What the step count and held answer, their refusals, and what the step enum tells.
-use Rattle.std.specs.Prelude.{ℕ, ◌^◌, Bool, ◌||◌, List, [], ◌∷◌, ◌++◌, ltb, leb}
+-- What the step count and held answer, their refusals, and what a step tells.
+use Rattle.std.specs.Prelude.{ℕ, Bool, ◌||◌, List, [], ◌∷◌, ◌++◌, ltb, leb, Result, Ok, Err}
 use Rattle.std.proofs.Math.Option.{Option, none, some}
 use Rattle.std.proofs.Math.ListN.{get_elem?}
-use Rattle.cube_spec.specs.Checks.{Check, check, first, Reply, gives, refuses, answered}
+use Rattle.cube_spec.specs.Checks.{Check, check, first, Reply, answered}
+use Rattle.cube_spec.specs.Refusals.{number_of}
+use Rattle.cube_spec.specs.declared.refusals.Refusal.{Refusal}
 use Rattle.plan_spec.specs.Plans.{PlanLists, board_count, step_count, lists_of}
 use Rattle.plan_spec.specs.Refusals.{plan_checks, plan_refusal}
 use Rattle.plan_spec.specs.declared.types.Plan.{Plan}
 use Rattle.rack_spec.specs.declared.types.Transfer.{Transfer}
 use Rattle.rack_spec.specs.declared.types.Step.{Step}
 use Rattle.rack_spec.specs.declared.types.Step.TheVariants as Step'
-use Rattle.rack_spec.specs.declared.types.Held.{Held}
-use Rattle.rack_spec.specs.declared.types.Held.TheVariants as Held'
-use Rattle.rack_spec.specs.declared.types.Counted.{Counted}
-use Rattle.rack_spec.specs.declared.types.Counted.TheVariants as Counted'
 use Rattle.rack_spec.specs.Grids.{Grid, grid_of, mask_of}
 use Rattle.rack_spec.specs.Steps.{TreeStep, expand, transfer, finish}
 use Rattle.rack_spec.specs.Held as Held
@@ -36,7 +34,11 @@ told (Step'.Expand c) = expands c.mask
 told (Step'.Transfer t) = told_of t
 told (Step'.Finish c) = finishes c.mask
 told Step'.Done = done
-told (Step'.Refused n) = refused n
+
+-- and of a call that may be refused, "its number alone"
+abbrev pub told_by : Result Step Refusal → Told
+told_by (Ok s) = told s
+told_by (Err e) = refused (number_of e)
 
 -- what is to be told of a step of the list
 abbrev pub telling : Grid → TreeStep → Told
@@ -76,14 +78,6 @@ unfoldable pub held_refusal : Plan → ℕ → ℕ → ℕ
 held_refusal q at b = first (held_checks q at b)
 
 -- ---- the answers
-
-abbrev pub held_reply : Held → Reply ℕ
-held_reply (Held'.Cells n) = gives n
-held_reply (Held'.Refused n) = refuses n
-
-abbrev pub counted_reply : Counted → Reply ℕ
-counted_reply (Counted'.Steps n) = gives n
-counted_reply (Counted'.Refused n) = refuses n
 
 -- the number of cells that board b holds at a position, or the refusal
 unfoldable pub holding : Plan → ℕ → ℕ → Reply ℕ

@@ -1,5 +1,5 @@
 -- How a lead, a transfer, a step and what a board holds are found without listing, and what the code that finds them asks.
-use Rattle.std.specs.Prelude.{ℕ, zero, suc, ◌+◌, ◌-◌, ◌*◌, ◌/◌, ◌%◌, ◌^◌, ◌≤◌, ◌<◌, ◌≡◌, Bool, true, false, List, [], ◌∷◌, eqb, ltb, length, get_or}
+use Rattle.std.specs.Prelude.{ℕ, zero, suc, ◌+◌, ◌-◌, ◌*◌, ◌/◌, ◌%◌, ◌^◌, ◌≤◌, ◌<◌, ◌≡◌, true, List, ◌∷◌, eqb, ltb, length, get_or}
 use Rattle.cube_spec.specs.Boxes.{pick, product, position}
 use Rattle.cube_spec.specs.Choices.{keeps}
 use Rattle.cube_spec.specs.Tree.{kept, last_of, parent_of}

@@ -1,7 +1,7 @@
 use cube_choice::types::Choice;
 
 // A transfer: all cells of the choice that the sender has are added to the receiver's.
-#[derive(Clone, Copy)]
+#[derive(Clone, Copy, Debug, PartialEq, Eq)]
 pub struct Transfer {
     pub sender: u32,
     pub receiver: u32,
@@ -9,26 +9,11 @@ pub struct Transfer {
     pub values: u64,
 }
 
-// A step that is taken, or why none is.
-#[derive(Clone, Copy)]
+// A step of a plan's list, or that all are taken.
+#[derive(Clone, Copy, Debug, PartialEq, Eq)]
 pub enum Step {
     Expand(Choice),
     Transfer(Transfer),
     Finish(Choice),
     Done,
-    Refused(u8),
-}
-
-// The answer of held: a number of cells.
-#[derive(Clone, Copy)]
-pub enum Held {
-    Cells(u64),
-    Refused(u8),
-}
-
-// The answer of the step count: T.
-#[derive(Clone, Copy)]
-pub enum Counted {
-    Steps(u64),
-    Refused(u8),
 }
