@@ -1,4 +1,4 @@
-// Numbers and fields, spelled at a place of a lent buffer.
+// Words and numbers as bytes at a place of a lent buffer; each function gives the place after what it put.
 #![tactic(auto)]
 
 pub mod fields;

@@ -1,16 +1,15 @@
 -- The lines by slots are the report's lines, for an accepted plan.
-use Prim.Native.Nat.{ℕ, ◌≤◌, ◌<◌}
+use Prim.Native.Nat.{ℕ, ◌<◌}
 use mathlib.Core.Path.{◌≡◌, sym, ◌∙◌, refl, ap, ap₂}
-use mathlib.Core.List.{List, [], ◌∷◌, ◌++◌}
+use mathlib.Core.List.{[], ◌∷◌, ◌++◌}
 use native.Mathlib.Omega.{arith}
 use lib.ListN.{length, get_or, take}
 use lib.Seq.{get_or-take}
-use Rattle.plan_spec.specs.Plans.{PlanLists, axis_at, length_at, exponent_at, lists_of}
+use Rattle.plan_spec.specs.Plans.{lists_of}
 use Rattle.plan_spec.specs.Accepted.{Accepted}
 use Rattle.plan_spec.specs.Answers.{prices_of}
 use Rattle.plan_spec.specs.declared.types.Plan.{Plan}
 use Rattle.plan_spec.specs.declared.types.Prices.{Prices}
-use Rattle.rack_spec.specs.Finding.{plan_grid}
 use Rattle.rack_spec.proofs.Planned.{order_slot}
 use Rattle.rack_spec.proofs.Tallied.{lawful, axes_same}
 use Rattle.report_spec.specs.Text.{text}

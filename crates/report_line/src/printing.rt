@@ -4,7 +4,7 @@ ghost use Rattle.std.proofs.lemmas.List.Edits.{sets};
 ghost use Rattle.report_spec.specs.Text.{text, decimal};
 ghost use Rattle.report_spec.specs.Printed.{fields, numbers, signeds};
 
-use report_field::fields::{put_cells, put_field, put_numbers, put_word};
+use report_field::fields::{put_field, put_fields, put_word};
 
 // A word and numbers: plan, dim, end and refused lines.
 pub fn put_line(out: &mut [u8], word: &[u8], values: &[u64]) -> usize
@@ -13,8 +13,8 @@ pub fn put_line(out: &mut [u8], word: &[u8], values: &[u64]) -> usize
         × (out.new ≡ sets out.old 0 (word.now ++ fields (numbers values.now))) }
 {
     let first = put_word(out, word);
-    let end = put_numbers(out, first, values);
-    out[end] = 10;
+    let end = put_fields(out, first, values);
+    out[end] = b'\n';
     end + 1
 }
 
@@ -24,10 +24,9 @@ pub fn put_group(out: &mut [u8], mask: u8, cells: &[i64]) -> usize
     ensures { (result ≡ length (text "group" ++ fields (decimal mask ∷ signeds cells.now))) × (result ≤ length out.new)
         × (out.new ≡ sets out.old 0 (text "group" ++ fields (decimal mask ∷ signeds cells.now))) }
 {
-    let word = [103u8, 114, 111, 117, 112];
-    let first = put_word(out, &word);
-    let next = put_field(out, first, mask as u64);
-    let end = put_cells(out, next, cells);
-    out[end] = 10;
+    let first = put_word(out, b"group");
+    let next = put_field(out, first, u64::from(mask));
+    let end = put_fields(out, next, cells);
+    out[end] = b'\n';
     end + 1
 }

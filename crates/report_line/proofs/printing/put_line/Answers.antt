@@ -1,22 +1,18 @@
-use Rattle.report_field.proofs.Spelling.{line_put}
+use Rattle.std.proofs.Common.{◌∙◌, ap, set, arith}
+use Rattle.std.proofs.lemmas.List.Edits.{sets}
+use Rattle.report_field.proofs.Spelling.{line_put, numbers_are}
 use Rattle.report_field.specs.Spread.{spread}
 use Rattle.report_spec.specs.Printed.{numbers}
-use lib.Seq.{sets, length-sets}
-use lib.ListN.{length, set, length-set}
-use native.Mathlib.Omega.{arith}
-use mathlib.Core.Path.{◌≡◌, ◌∙◌, ap}
+use lib.ListN.{length-set}
 use Rattle.report_line.proofs.printing.put_line.Goals as goal
 
 pub returns : goal.returns
 returns c =
+    let a = c.args in
     let w = c.put_word-first.ensures in
-    let lw = ap length w.1 ∙ length-sets c.args.out.now 0 c.args.word.now in
-    let e = c.put_numbers-end.ensures in
-    let le = ap length e.2 ∙ length-sets c.put_word-first.new.out c.put_word-first.result (spread (numbers c.args.values.now)) in
-    let L = line_put c.args.out.now c.args.word.now (numbers c.args.values.now) c.put_word-first.result c.put_numbers-end.result w.0 e.0 in
-    let chain : c.put_numbers-end.new.out ≡ sets (sets c.args.out.now 0 c.args.word.now) c.put_word-first.result (spread (numbers c.args.values.now)) =
-    e.2 ∙ ap (λ x. sets x c.put_word-first.result (spread (numbers c.args.values.now))) w.1 in (
+    let e = rw (numbers_are a.values.now) at c.put_fields-end.ensures in
+    let L = line_put a.out.now a.word.now (numbers a.values.now) c.put_word-first.result c.put_fields-end.result w.0 e.0 in (
       L.1,
-      omega (arith, c.requires, w.0, lw, e.1, le, length-set c.put_numbers-end.new.out c.put_numbers-end.result 10),
-      ap (λ x. set x c.put_numbers-end.result 10) chain ∙ L.0,
+      omega (arith, length-set c.put_fields-end.new.out c.put_fields-end.result 10),
+      ap (λ x. set x c.put_fields-end.result 10) (e.2 ∙ ap (λ x. sets x c.put_word-first.result (spread (numbers a.values.now))) w.1) ∙ L.0,
     )

@@ -4,4 +4,4 @@ use Rattle.report_line.proofs.reports.plan_line.Goals as goal
 
 pub returns : goal.returns
 unfolding text plan_text dim_text
-returns c = c.put_line.ensures
+returns c = rw (c.from.ensures, c.from-2.ensures) at c.put_line.ensures

@@ -4,4 +4,4 @@ use Rattle.report_line.proofs.reports.refused_line.Goals as goal
 
 pub returns : goal.returns
 unfolding text numbers refused_line
-returns c = c.put_line.ensures
+returns c = rw c.from.ensures at c.put_line.ensures
