@@ -1,140 +1,99 @@
 #![tactic(auto)]
 
-ghost use Rattle.std.specs.Prelude.{◌≡◌, false, ◌||◌, [], ◌∷◌, ◌^◌, ◌≤◌, ◌<◌, leb, get_or, take};
+ghost use Rattle.std.specs.Prelude.{◌≡◌, false, ◌||◌, [], ◌∷◌, ◌^◌, ◌≤◌, ◌<◌, leb, get_or, length, take};
 ghost use Rattle.cube_spec.specs.Limits.{axis_limit};
 ghost use Rattle.cube_spec.specs.Choices.{length_of};
 ghost use Rattle.cube_spec.specs.Ways.{sum_list, log2, room};
 ghost use Rattle.cube_spec.specs.Checks.{check, first};
+ghost use Rattle.cube_spec.specs.Refusals.{refused_by};
 ghost use Rattle.plan_spec.specs.Plans.{count, lists_of};
 ghost use Rattle.plan_spec.specs.Refusals.{all, some, bad_length, too_many_points, names_each, slots_used, bad_order, bad_exponents, plan_refusal};
 
+use cube_spec::refusals::Refusal;
 use plan_spec::types::Plan;
 
-// 4: is one of the lengths 0 or over 65,535?
-fn bad_length(lengths: [u32; 8], axes: u8) -> bool
-    requires { axes ≤ axis_limit }
-    ensures { result ≡ some bad_length (take axes lengths) }
+// Is a length 0 or over 65,535?
+#[tactic(auto, unfolding(plan_spec::specs::Refusals::bad_length))]
+fn bad_length(length: u32) -> bool
+    ensures { result ≡ bad_length length }
 {
-    let mut d: u8 = 0;
-    while d < axes {
-        let length = lengths[d as usize];
-        if length == 0 {
-            return true;
-        }
-        if 65535 < length {
-            return true;
-        }
-        d += 1;
-    }
-    false
+    length == 0 || 65535 < length
+}
+
+// 4.
+fn bad_lengths(lengths: &[u32]) -> bool
+    ensures { result ≡ some bad_length lengths.now }
+{
+    lengths.iter().any(|&length| bad_length(length))
 }
 
 // 5: does the product of lengths that are not bad exceed 16,777,216? It stops as soon as it does: eight lengths can multiply to 2^64.
-fn too_many_points(lengths: [u32; 8], axes: u8) -> bool
-    requires { (axes ≤ axis_limit) × (some bad_length (take axes lengths) ≡ false) }
-    ensures { result ≡ too_many_points (take axes lengths) }
+fn too_many_points(lengths: &[u32]) -> bool
+    requires { some bad_length lengths.now ≡ false }
+    ensures { result ≡ too_many_points lengths.now }
 {
     let mut points: u64 = 1;
-    let mut d: u8 = 0;
-    while d < axes {
-        points = points * (lengths[d as usize] as u64);
+    for &length in lengths {
+        points *= u64::from(length);
         if 16777216 < points {
             return true;
         }
-        d += 1;
     }
     false
 }
 
 // 4 and 5, 4 on all lengths before 5.
-pub fn lengths_refusal(lengths: [u32; 8], axes: u8) -> u8
-    requires { axes ≤ axis_limit }
-    ensures { result ≡ first (check 4 (some bad_length (take axes lengths)) ∷ check 5 (too_many_points (take axes lengths)) ∷ []) }
+pub fn check_lengths(lengths: &[u32]) -> Result<(), Refusal>
+    ensures { refused_by result ≡ first (check 4 (some bad_length lengths.now) ∷ check 5 (too_many_points lengths.now) ∷ []) }
 {
-    if bad_length(lengths, axes) {
-        return 4;
+    if bad_lengths(lengths) {
+        return Err(Refusal::Length);
     }
-    if too_many_points(lengths, axes) {
-        return 5;
+    if too_many_points(lengths) {
+        return Err(Refusal::Points);
     }
-    0
+    Ok(())
 }
 
-// floor(log2 d), by halving.
+// floor(log2 d), and 0 for 0.
 pub fn log2_of(d: u32) -> u32
     ensures { (result ≡ log2 d) × (result < 32) }
 {
-    let mut left = d;
-    let mut halved: u32 = 0;
-    while 1 < left {
-        left = left / 2;
-        halved += 1;
-    }
-    halved
+    d.checked_ilog2().unwrap_or(0)
 }
 
 // The largest p that lengths have room for.
-pub fn room_of(lengths: [u32; 8], axes: u8) -> u32
-    requires { axes ≤ axis_limit }
-    ensures { result ≡ room (take axes lengths) }
+pub fn room_of(lengths: &[u32]) -> u32
+    requires { length lengths.now ≤ axis_limit }
+    ensures { result ≡ room lengths.now }
 {
-    let mut sum: u32 = 0;
-    let mut d: u8 = 0;
-    while d < axes {
-        sum += log2_of(lengths[d as usize]);
-        d += 1;
-    }
-    sum
+    lengths.iter().map(|&length| log2_of(length)).sum()
 }
 
 // How often the order names an axis.
-fn count_of(order: [u8; 8], axes: u8, axis: u8) -> u8
-    requires { axes ≤ axis_limit }
-    ensures { result ≡ count axis (take axes order) }
+fn count_of(order: &[u8], axis: u8) -> usize
+    ensures { result ≡ count axis order.now }
 {
-    let mut times: u8 = 0;
-    let mut d: u8 = 0;
-    while d < axes {
-        if order[d as usize] == axis {
-            times += 1;
-        }
-        d += 1;
-    }
-    times
+    order.iter().filter(|&&named| named == axis).count()
 }
 
 // Does the order name each axis once?
-fn names_each(order: [u8; 8], axes: u8) -> bool
-    requires { axes ≤ axis_limit }
-    ensures { result ≡ names_each axes (take axes order) }
+fn names_each(order: &[u8]) -> bool
+    requires { length order.now ≤ axis_limit }
+    ensures { result ≡ names_each (length order.now) order.now }
 {
-    let mut axis: u8 = 0;
-    while axis < axes {
-        if count_of(order, axes, axis) != 1 {
-            return false;
-        }
-        axis += 1;
-    }
-    true
+    (0..order.len() as u8).all(|axis| count_of(order, axis) == 1)
 }
 
 // Is a slot past the last axis not zero?
 fn slots_used(plan: Plan) -> bool
+    requires { plan.axes ≤ axis_limit }
     ensures { result ≡ slots_used plan.axes plan.lengths || (slots_used plan.axes plan.order || slots_used plan.axes plan.exponents) }
 {
-    let mut d: u8 = plan.axes;
-    while d < 8 {
-        let i = d as usize;
-        if plan.lengths[i] != 0 {
+    for slot in plan.axes as usize..8 {
+        if plan.lengths[slot] != 0 || plan.order[slot] != 0 || plan.exponents[slot] != 0 {
             return true;
         }
-        if plan.order[i] != 0 {
-            return true;
-        }
-        if plan.exponents[i] != 0 {
-            return true;
-        }
-        d += 1;
     }
     false
 }
@@ -144,58 +103,33 @@ fn bad_order(plan: Plan) -> bool
     requires { plan.axes ≤ axis_limit }
     ensures { result ≡ bad_order plan }
 {
-    let order = plan.order;
-    if names_each(order, plan.axes) {
-        return slots_used(plan);
-    }
-    true
+    !names_each(&plan.order[..plan.axes as usize]) || slots_used(plan)
 }
 
 // Is 2^k at most a length? An exponent can be 255, so it is judged before it shifts.
 fn cuts(length: u32, k: u8) -> bool
     ensures { result ≡ leb (2 ^ k) length }
 {
-    if 32 <= k {
-        return false;
-    }
-    (1u64 << k) <= (length as u64)
+    k < 32 && (1u64 << k) <= u64::from(length)
 }
 
 // Is each 2^k at most its axis length?
-fn cuts_each(lengths: [u32; 8], exponents: [u8; 8], axes: u8) -> bool
-    requires { axes ≤ axis_limit }
-    ensures { result ≡ all axes (λ d. leb (2 ^ get_or (take axes exponents) d 0) (length_of (take axes lengths) d)) }
+fn cuts_each(lengths: &[u32], exponents: &[u8]) -> bool
+    requires { length lengths.now ≡ length exponents.now }
+    ensures { result ≡ all (length lengths.now) (λ d. leb (2 ^ get_or exponents.now d 0) (length_of lengths.now d)) }
 {
-    let mut d: u8 = 0;
-    while d < axes {
-        let i = d as usize;
-        if !cuts(lengths[i], exponents[i]) {
-            return false;
-        }
-        d += 1;
-    }
-    true
-}
-
-// A byte as a wider number.
-fn wide(x: u8) -> u32
-    ensures { (result ≡ x) × (result < 256) }
-{
-    x as u32
+    lengths
+        .iter()
+        .zip(exponents)
+        .all(|(&length, &k)| cuts(length, k))
 }
 
 // The sum of the exponents, in 32 bits: two of 255 do not fit 8.
-fn exponent_sum(exponents: [u8; 8], axes: u8) -> u32
-    requires { axes ≤ axis_limit }
-    ensures { result ≡ sum_list (take axes exponents) }
+fn exponent_sum(exponents: &[u8]) -> u32
+    requires { length exponents.now ≤ axis_limit }
+    ensures { result ≡ sum_list exponents.now }
 {
-    let mut sum: u32 = 0;
-    let mut d: u8 = 0;
-    while d < axes {
-        sum += wide(exponents[d as usize]);
-        d += 1;
-    }
-    sum
+    exponents.iter().map(|&k| u32::from(k)).sum()
 }
 
 // 9.
@@ -203,37 +137,27 @@ fn bad_exponents(plan: Plan) -> bool
     requires { plan.axes ≤ axis_limit }
     ensures { result ≡ bad_exponents (lists_of plan) }
 {
-    let lengths = plan.lengths;
-    let exponents = plan.exponents;
-    if cuts_each(lengths, exponents, plan.axes) {
-        return exponent_sum(exponents, plan.axes) != wide(plan.p);
-    }
-    true
+    let n = plan.axes as usize;
+    let exponents = &plan.exponents[..n];
+    !cuts_each(&plan.lengths[..n], exponents) || exponent_sum(exponents) != u32::from(plan.p)
 }
 
-// The refusal of a lent plan, 0 where there is none: 3, 4, 5, 6, 8, 9.
-pub fn plan_refusal(plan: Plan) -> u8
-    ensures { result ≡ plan_refusal plan }
+// What is wrong with a lent plan: 3, 4, 5, 6, 8, 9.
+pub fn check_plan(plan: Plan) -> Result<(), Refusal>
+    ensures { refused_by result ≡ plan_refusal plan }
 {
-    if plan.axes == 0 {
-        return 3;
+    if plan.axes == 0 || 8 < plan.axes {
+        return Err(Refusal::Axes);
     }
-    if 8 < plan.axes {
-        return 3;
-    }
-    let lengths = plan.lengths;
-    let refusal = lengths_refusal(lengths, plan.axes);
-    if refusal != 0 {
-        return refusal;
-    }
+    check_lengths(&plan.lengths[..plan.axes as usize])?;
     if 10 < plan.p {
-        return 6;
+        return Err(Refusal::Boards);
     }
     if bad_order(plan) {
-        return 8;
+        return Err(Refusal::Order);
     }
     if bad_exponents(plan) {
-        return 9;
+        return Err(Refusal::Exponents);
     }
-    0
+    Ok(())
 }

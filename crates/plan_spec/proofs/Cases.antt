@@ -95,7 +95,7 @@ idle : (idle_boards (7 ∷ 4 ∷ 3 ∷ []) 3 ≡ 0)
 unfolding computing
 idle = (refl, refl, refl, refl, refl)
 
--- ---- what planning answers, with its slots: all boards in use, a trainer's 64 boards of which 2 are, and a refusal with nothing but zeros;
+-- ---- what planning answers, with its slots: all boards in use, a trainer's 64 boards of which 2 are, and a refusal;
 -- what pricing answers for plans that are not the planner's
 
 abbrev three : Plan
@@ -104,12 +104,9 @@ three = lent 3 (2 ∷ 7 ∷ 4 ∷ replicate 5 0) (1 ∷ 2 ∷ 0 ∷ replicate 5 
 abbrev one : Plan
 one = lent 1 (2 ∷ replicate 7 0) (replicate 8 0) (1 ∷ replicate 7 0) 1
 
-abbrev none : Plan
-none = lent 0 (replicate 8 0) (replicate 8 0) (replicate 8 0) 0
-
-planned_cases : (planning (2 ∷ 7 ∷ 4 ∷ []) 3 ≡ record { refusal = 0; plan = three; prices = prices 40 200 12; idle = 0 })
-    × (planning (2 ∷ []) 6 ≡ record { refusal = 0; plan = one; prices = prices 1 2 1; idle = 62 })
-    × (planning (2 ∷ []) 11 ≡ record { refusal = 6; plan = none; prices = prices 0 0 0; idle = 0 })
+planned_cases : (planning (2 ∷ 7 ∷ 4 ∷ []) 3 ≡ gives (record { plan = three; prices = prices 40 200 12; idle = 0 }))
+    × (planning (2 ∷ []) 6 ≡ gives (record { plan = one; prices = prices 1 2 1; idle = 62 }))
+    × (planning (2 ∷ []) 11 ≡ refuses 6)
 unfolding computing
 planned_cases = (refl, refl, refl)
 

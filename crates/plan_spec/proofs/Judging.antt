@@ -1,29 +1,26 @@
 -- Laws for the loops that judge lengths and plans. Each loop compares what is left of a list with the whole.
-use Prim.Native.Nat.{ℕ, zero, suc, ◌+◌, ◌-◌, ◌*◌, ◌/◌, ◌^◌, ◌≤◌, ◌<◌}
-use mathlib.Core.Path.{◌≡◌, sym, ◌∙◌, refl, ap}
+use Prim.Native.Nat.{ℕ, zero, suc, ◌+◌, ◌-◌, ◌*◌, ◌^◌, ◌≤◌, ◌<◌}
+use mathlib.Core.Path.{◌≡◌, sym, ◌∙◌, refl}
 use mathlib.Core.Bool.{Bool, true, false, ◌||◌, not}
 use mathlib.Core.List.{List, [], ◌∷◌}
-use native.Mathlib.Nat.{mul-one, one-mul, mul_assoc, mul-le-mul, mul-le-mul_left, zero-add}
+use native.Mathlib.Nat.{mul-one, one-mul, mul_assoc, mul-le-mul_left}
 use native.Mathlib.Numerals.{add-one}
 use native.Mathlib.Omega.{arith}
-use native.Mathlib.Decide.{dec_le}
-use borrow.Author.Tests.{eqb-true, eqb-false, eq-eqb, ne_eqb, ltb-false, lt-ltb, le-ltb, leb-true, le-leb, lt-leb}
+use borrow.Author.Tests.{eqb-true, eqb-false, eq-eqb, ne_eqb, ltb-false, lt-ltb, le-ltb, lt-leb}
 use lib.Dec.{eqb, ltb, leb}
 use lib.ListN.{length, get_or, take, drop, drop_of_length-le}
-use lib.Pow.{pow_mono}
 use lib.Seq.{drop-cons, get_or-take, length-take-le}
 use Rattle.cube_spec.specs.Limits.{axis_limit, length_limit, point_limit, power_limit}
 use Rattle.cube_spec.specs.Boxes.{product}
 use Rattle.cube_spec.specs.Choices.{length_of, points}
-use Rattle.cube_spec.specs.Ways.{sum_list, halvings, log2, room}
+use Rattle.cube_spec.specs.Ways.{sum_list, halvings, log2}
 use Rattle.cube_spec.specs.Checks.{Check, check, first}
 use Rattle.cube_spec.proofs.Sums.{by}
 use Rattle.cube_spec.proofs.Naturals.{clash}
 use Rattle.cube_spec.proofs.Products.{product_pos, product_next, product_none}
 use Rattle.plan_spec.specs.declared.types.Plan.{Plan}
-use Rattle.plan_spec.specs.Plans.{count, lists_of}
+use Rattle.plan_spec.specs.Plans.{lists_of}
 use Rattle.plan_spec.specs.Refusals.{all, some, bad_axes, bad_length, too_many_points, too_many_boards, names_each, slots_used, bad_order, bad_exponents, length_checks, plan_checks, plan_refusal}
-use Rattle.plan_spec.proofs.Room.{log2_fit}
 
 -- ---- tests over a list, and over the numbers below n
 
@@ -72,24 +69,6 @@ pub or_true : (a : Bool) → (a || true) ≡ true
 or_true true = refl
 or_true false = refl
 
--- ---- the order
-
-pub names_start : (o : List ℕ) → names_each 0 o ≡ true
-unfolding names_each all
-names_start o = refl
-
-pub names_next : (o : List ℕ) (a : ℕ) → names_each a o ≡ true → count a o ≡ 1 → names_each (a + 1) o ≡ true
-unfolding names_each
-names_next o a e h = all_next (λ a. eqb (count a o) 1) a e (eq-eqb (count a o) 1 h)
-
-pub names_fails : (o : List ℕ) (n a : ℕ) → a < n → (count a o ≡ 1 → ⊥) → names_each n o ≡ false
-unfolding names_each
-names_fails o n a h ne = all_fails (λ a. eqb (count a o) 1) n a h (ne_eqb (count a o) 1 ne)
-
-pub names_end : (o : List ℕ) (n a : ℕ) → a ≤ n → n ≤ a → names_each a o ≡ true → names_each n o ≡ true
-unfolding names_each
-names_end o n a h k e = all_end (λ a. eqb (count a o) 1) n a h k e
-
 -- ---- slots past the last axis
 
 pub slots_hit : (l : List ℕ) (d : ℕ) → d < length l → (get_or l d 0 ≡ 0 → ⊥) → slots_used d l ≡ true
@@ -103,12 +82,6 @@ slots_miss l d h e = rw (drop-cons l d 0 h, eq-eqb (get_or l d 0) 0 e, add-one)
 pub slots_end : (l : List ℕ) (d : ℕ) → length l ≤ d → slots_used d l ≡ false
 unfolding slots_used some
 slots_end l d h = rw (drop_of_length-le l {i = d} h)
-
--- ---- exponents
-
--- the exponent and the length of an axis, read from the slots
-pub cut_slot : (l k : List ℕ) (n d : ℕ) → d < n → leb (2 ^ get_or (take n k) d 0) (length_of (take n l) d) ≡ leb (2 ^ get_or k d 0) (get_or l d 0)
-cut_slot l k n d h = rw (get_or-take n k d 0 h, get_or-take n l d 0 h)
 
 -- ---- the first n of eight slots
 
@@ -125,55 +98,11 @@ module _ (l : List ℕ) (n : ℕ) (eight : length l ≡ 8) (few : n ≤ 8) where
   pub left_none : (i : ℕ) → n ≤ i → drop i (take n l) ≡ []
   left_none i h = let q = first_length in drop_of_length-le (take n l) {i = i} (omega arith)
 
-  pub some_hit : (f : ℕ → Bool) (i : ℕ) → i < n → f (get_or l i 0) ≡ true → some f (drop i (take n l)) ≡ true
-  unfolding some
-  some_hit f i h t = rw (left_next i h, t)
-
-  pub some_miss : (f : ℕ → Bool) (i : ℕ) → i < n → f (get_or l i 0) ≡ false → some f (drop i (take n l)) ≡ some f (drop (i + 1) (take n l))
-  unfolding some
-  some_miss f i h t = rw (left_next i h, t)
-
-  pub some_end : (f : ℕ → Bool) (i : ℕ) → n ≤ i → some f (drop i (take n l)) ≡ false
-  unfolding some
-  some_end f i h = rw (left_none i h)
-
   pub sum_next : (i : ℕ) → i < n → sum_list (drop i (take n l)) ≡ get_or l i 0 + sum_list (drop (i + 1) (take n l))
   unfolding sum_list
   sum_next i h = rw (left_next i h)
 
-  pub sum_end : (i : ℕ) → n ≤ i → sum_list (drop i (take n l)) ≡ 0
-  unfolding sum_list
-  sum_end i h = rw (left_none i h)
-
-  pub room_next : (i : ℕ) → i < n → room (drop i (take n l)) ≡ log2 (get_or l i 0) + room (drop (i + 1) (take n l))
-  unfolding room
-  room_next i h = rw (left_next i h)
-
-  pub room_end : (i : ℕ) → n ≤ i → room (drop i (take n l)) ≡ 0
-  unfolding room
-  room_end i h = rw (left_none i h)
-
-  pub count_hit : (a i : ℕ) → i < n → get_or l i 0 ≡ a → count a (drop i (take n l)) ≡ 1 + count a (drop (i + 1) (take n l))
-  unfolding count
-  count_hit a i h e = rw (left_next i h, eq-eqb (get_or l i 0) a e)
-
-  pub count_miss : (a i : ℕ) → i < n → (get_or l i 0 ≡ a → ⊥) → count a (drop i (take n l)) ≡ count a (drop (i + 1) (take n l))
-  unfolding count
-  count_miss a i h e = rw (left_next i h, ne_eqb (get_or l i 0) a e, zero-add)
-
-  pub count_end : (a i : ℕ) → n ≤ i → count a (drop i (take n l)) ≡ 0
-  unfolding count
-  count_end a i h = rw (left_none i h)
-
 -- ---- lengths
-
-pub bad_zero : (x : ℕ) → x ≡ 0 → bad_length x ≡ true
-unfolding bad_length
-bad_zero x h = rw (eq-eqb x 0 h)
-
-pub bad_long : (x : ℕ) → length_limit < x → bad_length x ≡ true
-unfolding bad_length
-bad_long x h = rw (ne_eqb x 0 (λ e. omega arith), lt-ltb 65535 x h)
 
 pub good_length : (x : ℕ) → 1 ≤ x → x ≤ length_limit → bad_length x ≡ false
 unfolding bad_length
@@ -186,69 +115,44 @@ length_good x e =
     (λ t. clash (rw t at e))
     (λ t. let ne = eqb-false x 0 t in let z : ltb 65535 x ≡ false = rw t at e in let q = ltb-false 65535 x z in (omega (arith, ne), omega arith))
 
-module _ (l : List ℕ) (n : ℕ) (eight : length l ≡ 8) (few : n ≤ 8) (good : some bad_length (take n l) ≡ false) where
-  pub slot_good : (i : ℕ) → i < n → (1 ≤ get_or l i 0) × (get_or l i 0 ≤ length_limit)
-  slot_good i h =
-      let q = first_length l n eight few in
-      length_good (get_or l i 0) (rw (get_or-take n l i 0 h) at (some_false bad_length (take n l) good i (omega arith)))
+module _ (l : List ℕ) (good : some bad_length l ≡ false) where
+  slot_good : (i : ℕ) → i < length l → (1 ≤ length_of l i) × (length_of l i ≤ length_limit)
+  slot_good i h = length_good (length_of l i) (some_false bad_length l good i h)
 
+  -- what is left to multiply from place i on
   abbrev pub factors : ℕ → ℕ
-  factors i = product (length_of (take n l)) (n - i) i
+  factors i = product (length_of l) (length l - i) i
 
   factors_pos : (i : ℕ) → 0 < factors i
-  factors_pos i = product_pos (length_of (take n l)) (n - i) i (λ j a b. let h : j < n = omega arith in rw (get_or-take n l j 0 h) (slot_good j h).0)
+  factors_pos i = product_pos (length_of l) (length l - i) i (λ j a b. (slot_good j (omega arith)).0)
 
-  pub points_start : 1 * factors 0 ≡ points (take n l)
+  pub points_start : 1 * factors 0 ≡ points l
   unfolding points
-  points_start = let z : n - 0 ≡ n = omega arith in rw (one-mul, z, first_length l n eight few)
+  points_start = let z : length l - 0 ≡ length l = omega arith in rw (one-mul, z)
 
-  module _ (c i : ℕ) (h : i < n) (small : c ≤ point_limit) (e : c * factors i ≡ points (take n l)) where
-    pub points_next : c * get_or l i 0 * factors (i + 1) ≡ points (take n l)
-    points_next = rw (product_next (length_of (take n l)) n i h, get_or-take n l i 0 h, ← mul_assoc) at e
+  module _ (c i : ℕ) (h : i < length l) (small : c ≤ point_limit) (e : c * factors i ≡ points l) where
+    pub points_next : c * length_of l i * factors (i + 1) ≡ points l
+    points_next = rw (product_next (length_of l) (length l) i h, ← mul_assoc) at e
 
     -- a product that has passed the limit stays past it
-    pub points_past : point_limit < c * get_or l i 0 → too_many_points (take n l) ≡ true
+    pub points_past : point_limit < c * length_of l i → too_many_points l ≡ true
     unfolding too_many_points
     points_past g =
-        let p = mul-le-mul_left (c * get_or l i 0) (factors_pos (i + 1)) in
-        let q = mul-one (c * get_or l i 0) in
+        let p = mul-le-mul_left (c * length_of l i) (factors_pos (i + 1)) in
+        let q = mul-one (c * length_of l i) in
         let r = points_next in
-        lt-ltb 16777216 (points (take n l)) (omega arith)
+        lt-ltb 16777216 (points l) (omega arith)
 
-    pub points_fit : c * get_or l i 0 < 18446744073709551616
-    points_fit = let q = mul-le-mul small (slot_good i h).1 in omega arith
-
-  pub points_end : (c i : ℕ) → n ≤ i → c ≤ point_limit → c * factors i ≡ points (take n l) → too_many_points (take n l) ≡ false
+  pub points_end : (c i : ℕ) → length l ≤ i → c ≤ point_limit → c * factors i ≡ points l → too_many_points l ≡ false
   unfolding too_many_points
-  points_end c i h small e = let q : c ≡ points (take n l) = (rw (product_none (length_of (take n l)) n i h, mul-one) at e) in le-ltb 16777216 (points (take n l)) (omega arith)
+  points_end c i h small e = let q : c ≡ points l = (rw (product_none (length_of l) (length l) i h, mul-one) at e) in le-ltb 16777216 (points l) (omega arith)
 
 -- ---- floor(log2 d)
-
--- more fuel changes nothing
-halvings_same : (f g d : ℕ) → d ≤ f → d ≤ g → halvings f d ≡ halvings g d
-unfolding halvings
-halvings_same zero zero d h k = refl
-halvings_same zero (suc g) d h k = rw (lt-leb 2 d (omega arith))
-halvings_same (suc f) zero d h k = rw (lt-leb 2 d (omega arith))
-halvings_same (suc f) (suc g) d h k = by (leb 2 d) (λ t. rw t (ap suc (halvings_same f g (d / 2) (let q = leb-true 2 d t in omega arith) (let q = leb-true 2 d t in omega arith)))) (λ t. rw t)
-
-pub log2_next : (d : ℕ) → 1 < d → log2 d ≡ 1 + log2 (d / 2)
-unfolding log2
-log2_next zero h = absurd (omega arith)
-log2_next (suc d) h = unfold halvings in rw (le-leb 2 (suc d) h) (ap suc (halvings_same d (suc d / 2) (suc d / 2) (omega arith) (omega arith)) ∙ (omega arith))
 
 pub log2_none : (d : ℕ) → d ≤ 1 → log2 d ≡ 0
 unfolding log2 halvings
 log2_none zero h = refl
 log2_none (suc d) h = rw (lt-leb 2 (suc d) (omega arith))
-
-pub log2_small : (d : ℕ) → d < 4294967296 → log2 d < 32
-log2_small zero h = rw (log2_none 0 (omega arith)) (omega arith)
-log2_small (suc d) h = go (dec_le 32 (log2 (suc d)))
-  where
-    go : Dec (32 ≤ log2 (suc d)) → log2 (suc d) < 32
-    go (yes l) = absurd (let p : 2 ^ 32 ≤ 2 ^ log2 (suc d) = pow_mono l in let q = log2_fit (suc d) (omega arith) in omega arith)
-    go (no l) = omega (arith, l)
 
 -- ---- a plan
 

@@ -18,6 +18,7 @@ pub mod Attained
 pub mod Room
 pub mod Demand
 pub mod Judging
+pub mod Chains
 pub mod Accepting
 pub mod Inserting
 pub mod Sorting

@@ -10,14 +10,13 @@ use lib.Dec.{eqb, ltb}
 use lib.Pow.{pow_mono}
 use Rattle.cube_spec.specs.Boxes.{pick}
 use Rattle.cube_spec.specs.Ways.{Division, room}
-use Rattle.cube_spec.specs.Checks.{check, first}
+use Rattle.cube_spec.specs.Checks.{gives, check, first, answered}
 use Rattle.cube_spec.proofs.Sums.{by}
 use Rattle.cube_spec.proofs.Dues.{first_due, first_passed, lacks, never}
 use Rattle.plan_spec.specs.declared.types.Plan.{Plan}
-use Rattle.plan_spec.specs.Plans.{PlanLists}
 use Rattle.plan_spec.specs.Rule.{plan_of, power_used, plan_within, idle_boards}
 use Rattle.plan_spec.specs.Refusals.{length_checks, planning_checks, plan_checks, planning_refusal, plan_refusal}
-use Rattle.plan_spec.specs.Answers.{planned_as, planning}
+use Rattle.plan_spec.specs.Answers.{planned_of, planning}
 use Rattle.plan_spec.specs.Before.{refusal_before, planning_before}
 use Rattle.plan_spec.proofs.Room.{division_room}
 use Rattle.plan_spec.proofs.Accepting.{used_le, used_all, used_most, planning_numbered}
@@ -35,9 +34,9 @@ never_lent q = never 7 (plan_checks q) (omega arith) refl
 -- ---- what stays
 
 -- beside a refusal nothing is told
-blanks : (n j k : ℕ) (a b : PlanLists) → (n ≡ 0 → ⊥) → planned_as n j a ≡ planned_as n k b
-blanks zero j k a b h = absurd (h refl)
-blanks (suc n) j k a b h = unfold planned_as in refl
+blanks : {A : Type 0} (n : ℕ) (a b : A) → (n ≡ 0 → ⊥) → answered n a ≡ answered n b
+blanks zero a b h = absurd (h refl)
+blanks (suc n) a b h = unfold answered in refl
 
 module _ (ds : List ℕ) (p : ℕ) where
   -- 7 was the last: due where none of 3 to 6 is and p passes F
@@ -53,11 +52,11 @@ module _ (ds : List ℕ) (p : ℕ) where
   pub same_plan : p ≤ room ds → plan_within ds p ≡ plan_of ds p
   same_plan l = ap (plan_of ds) (sym (used_all ds p l))
 
-  fitted : ltb (room ds) p ≡ false → planned_as 0 (idle_boards ds p) (plan_within ds p) ≡ planned_as 0 0 (plan_of ds p)
+  fitted : ltb (room ds) p ≡ false → planned_of (idle_boards ds p) (plan_within ds p) ≡ planned_of 0 (plan_of ds p)
   unfolding idle_boards
   fitted t =
       let u : power_used ds p ≡ p = sym (used_all ds p (ltb-false (room ds) p t)) in
-      ap (λ q. planned_as 0 (2 ^ p - 2 ^ q) (plan_of ds q)) u ∙ ap (λ i. planned_as 0 i (plan_of ds p)) (sub_self (2 ^ p))
+      ap (λ q. planned_of (2 ^ p - 2 ^ q) (plan_of ds q)) u ∙ ap (λ i. planned_of i (plan_of ds p)) (sub_self (2 ^ p))
 
   -- "Plans that were given before are given unaltered", with no board idle; and so is every refusal but 7
   pub unaltered : (refusal_before ds p ≡ 7 → ⊥) → planning ds p ≡ planning_before ds p
@@ -70,23 +69,24 @@ module _ (ds : List ℕ) (p : ℕ) where
       by (ltb (room ds) p)
       (λ t. absurd (h (b ∙ ap (λ x. pick x 7 0) t)))
       (λ t.
-      ap (λ n. planned_as n (idle_boards ds p) (plan_within ds p)) z
-      ∙ fitted t
-      ∙ ap (λ n. planned_as n 0 (plan_of ds p)) (sym (b ∙ ap (λ x. pick x 7 0) t))))
+      ap (λ n. answered n (planned_of (idle_boards ds p) (plan_within ds p))) z
+      ∙ ap (answered 0) (fitted t)
+      ∙ ap (λ n. answered n (planned_of 0 (plan_of ds p))) (sym (b ∙ ap (λ x. pick x 7 0) t))))
       (λ s.
       let ne = eqb-false (planning_refusal ds p) 0 s in
-      blanks (planning_refusal ds p) (idle_boards ds p) 0 (plan_within ds p) (plan_of ds p) ne ∙ ap (λ n. planned_as n 0 (plan_of ds p)) (sym (before_due ne)))
+      blanks (planning_refusal ds p) (planned_of (idle_boards ds p) (plan_within ds p)) (planned_of 0 (plan_of ds p)) ne
+      ∙ ap (λ n. answered n (planned_of 0 (plan_of ds p))) (sym (before_due ne)))
 
   -- where 7 was due, the plan for F is given
-  pub now_planned : refusal_before ds p ≡ 7 → planning ds p ≡ planned_as 0 (2 ^ p - 2 ^ room ds) (plan_of ds (room ds))
-  unfolding planning idle_boards
+  pub now_planned : refusal_before ds p ≡ 7 → planning ds p ≡ gives (planned_of (2 ^ p - 2 ^ room ds) (plan_of ds (room ds)))
+  unfolding planning idle_boards answered
   now_planned h =
       by (eqb (planning_refusal ds p) 0)
       (λ s.
       let z = eqb-true (planning_refusal ds p) 0 s in
       let b = before_passed z in
       by (ltb (room ds) p)
-      (λ t. ap₂ (λ n u. planned_as n (2 ^ p - 2 ^ u) (plan_of ds u)) z (sym (used_most ds p (ltb-true (room ds) p t))))
+      (λ t. ap₂ (λ n u. answered n (planned_of (2 ^ p - 2 ^ u) (plan_of ds u))) z (sym (used_most ds p (ltb-true (room ds) p t))))
       (λ t. absurd (let e = sym h ∙ b ∙ ap (λ x. pick x 7 0) t in omega arith)))
       (λ s. absurd (never_planning ds p (sym (before_due (eqb-false (planning_refusal ds p) 0 s)) ∙ h)))
 

@@ -1,12 +1,10 @@
 -- What planning and pricing answer.
-use Rattle.std.specs.Prelude.{ℕ, zero, suc, ◌-◌, Bool, List, [], leb, length}
+use Rattle.std.specs.Prelude.{ℕ, suc, ◌-◌, Bool, List, leb, length}
 use Rattle.cube_spec.specs.Limits.{padded}
-use Rattle.cube_spec.specs.Checks.{Reply, gives, refuses, answered}
+use Rattle.cube_spec.specs.Checks.{Reply, answered}
 use Rattle.plan_spec.specs.declared.types.Plan.{Plan}
 use Rattle.plan_spec.specs.declared.types.Prices.{Prices}
 use Rattle.plan_spec.specs.declared.types.Marked.{Marked}
-use Rattle.plan_spec.specs.declared.types.Priced.{Priced}
-use Rattle.plan_spec.specs.declared.types.Priced.TheVariants as Priced'
 use Rattle.plan_spec.specs.declared.types.Planned.{Planned}
 use Rattle.plan_spec.specs.Plans.{PlanLists, length_at, moved, added, share_size, lists_of, slotted}
 use Rattle.plan_spec.specs.declared.types.Arrangement.{Arrangement}
@@ -32,23 +30,17 @@ fewest_added a = never_rise (length a.lengths) (length_at a)
 unfoldable pub marked_of : PlanLists → Marked
 marked_of a = record { prices = prices_of a; fewest = fewest_added a }
 
--- the enum answer of pricing: the paper's values, or its number
-abbrev pub priced_reply : Priced → Reply Marked
-priced_reply (Priced'.Given c) = gives c
-priced_reply (Priced'.Refused n) = refuses n
-
 -- what pricing answers
 unfoldable pub pricing : Plan → Reply Marked
 pricing q = answered (plan_refusal q) (marked_of (lists_of q))
 
--- what planning answers: "Each gives its number alone", so nothing but zeros stands beside a refusal
-unfoldable pub planned_as : ℕ → ℕ → PlanLists → Planned
-planned_as zero idle a = record { refusal = 0; plan = slotted a; prices = prices_of a; idle = idle }
-planned_as (suc n) idle a =
-    record { refusal = suc n; plan = slotted (record { lengths = []; order = []; exponents = []; p = 0 }); prices = record { moved = 0; added = 0; share = 0 }; idle = 0 }
+-- a plan with its prices, beside which so many boards stand idle
+abbrev pub planned_of : ℕ → PlanLists → Planned
+planned_of idle a = record { plan = slotted a; prices = prices_of a; idle = idle }
 
-unfoldable pub planning : List ℕ → ℕ → Planned
-planning ds p = planned_as (planning_refusal ds p) (idle_boards ds p) (plan_within ds p)
+-- what planning answers: "Each gives its number alone", so nothing stands beside a refusal
+unfoldable pub planning : List ℕ → ℕ → Reply Planned
+planning ds p = answered (planning_refusal ds p) (planned_of (idle_boards ds p) (plan_within ds p))
 
 -- the planner's order and exponents, both in plan order, in slots
 unfoldable pub arrangement : List ℕ → ℕ → Arrangement

@@ -24,17 +24,9 @@ pub struct Marked {
     pub fewest: bool,
 }
 
-// The answer of pricing.
-#[derive(Clone, Copy)]
-pub enum Priced {
-    Given(Marked),
-    Refused(u8),
-}
-
-// The answer of planning: refusal 0 with the plan, its prices and how many of the boards asked for stand idle, or the refusal with nothing but zeros.
+// The answer of planning: the plan, its prices and how many of the boards asked for stand idle.
 #[derive(Clone, Copy)]
 pub struct Planned {
-    pub refusal: u8,
     pub plan: Plan,
     pub prices: Prices,
     pub idle: u32,

@@ -1,10 +1,18 @@
 use mathlib.Core.Path.{◌≡◌}
-use lib.ListN.{length}
+use native.Mathlib.Omega.{arith}
+use lib.ListN.{length, take}
+use lib.Seq.{length-take-le}
 use Rattle.plan_spec.proofs.Judging.{bad_exponents_lem}
 use Rattle.plan_check.proofs.bad_exponents.Goals as goal
 
-pub returns-then-cuts_each : goal.returns-then-cuts_each
-returns-then-cuts_each c = let e : length c.args.plan.lengths ≡ 8 = c.well_formed.0.1.1.1.1.0.1.0.1 in rw (bad_exponents_lem c.args.plan e c.requires, ← c.cuts_each.ensures, c.if-cuts_each.true, ← c.exponent_sum.ensures, ← c.wide.ensures.0)
+pub returns-then-not-cuts_each : goal.returns-then-not-cuts_each
+returns-then-not-cuts_each c =
+    let q = c.args.plan in
+    let n : length (take q.axes q.lengths) ≡ q.axes = length-take-le q.axes q.lengths (omega arith) in
+    rw (bad_exponents_lem q (omega arith) c.requires, ← rw n at c.cuts_each.ensures, c.if-not-cuts_each.true)
 
-pub returns : goal.returns
-returns c = let e : length c.args.plan.lengths ≡ 8 = c.well_formed.0.1.1.1.1.0.1.0.1 in rw (bad_exponents_lem c.args.plan e c.requires, ← c.cuts_each.ensures, c.if-cuts_each.false)
+pub returns-else-not-cuts_each : goal.returns-else-not-cuts_each
+returns-else-not-cuts_each c =
+    let q = c.args.plan in
+    let n : length (take q.axes q.lengths) ≡ q.axes = length-take-le q.axes q.lengths (omega arith) in
+    rw (bad_exponents_lem q (omega arith) c.requires, ← rw n at c.cuts_each.ensures, c.if-not-cuts_each.false, ← c.exponent_sum.ensures, ← c.from.ensures)
