@@ -2,90 +2,32 @@
 #![tactic(auto)]
 
 ghost use Rattle.std.specs.Prelude.{◌≡◌, ◌+◌, ◌*◌, ◌≤◌, ◌<◌, length};
-ghost use Rattle.cube_spec.specs.Boxes.{sum_z};
-ghost use Rattle.cell_spec.specs.Wrapped.{wrapped};
-ghost use Rattle.cell_spec.specs.Rows.{from, every, written, axis_sums, combs};
+ghost use Rattle.cell_spec.specs.Rows.{from, written, axis_sums};
 
-use cell_row::wrapping::wrapping_add;
+use cell_row::adding::clear;
+use cell_row::combs::{Comb, sum_combs};
 
-// The sum of n cells, each step further than the one before. It stays in a register.
-fn sum_every(work: &[i64], at: usize, n: usize, step: usize) -> i64
-    requires { at + n * step < length work.now + step }
-    ensures { result ≡ wrapped (sum_z n (every work.now at step)) }
-{
-    let mut sum: i64 = 0;
-    for m in 0..n {
-        let x = work[at + m * step];
-        sum = wrapping_add(sum, x);
-    }
-    sum
-}
-
-// Four sums at once, each in a register: the e cells of a sum stand t apart, the sums u apart.
-fn sum_four(work: &mut [i64], at: usize, u: usize, t: usize, e: usize, dst: usize)
-    requires { (at + 3 * u ≤ length work.old) × (at + 3 * u + e * t < length work.old + t) × (dst + 4 ≤ length work.old) }
-    ensures { work.new ≡ written work.old dst 4 (combs work.old at u e t) }
-{
-    let v = u + u;
-    let w = v + u;
-    let mut a: i64 = 0;
-    let mut b: i64 = 0;
-    let mut c: i64 = 0;
-    let mut d: i64 = 0;
-    for m in 0..e {
-        let p = at + m * t;
-        a = wrapping_add(a, work[p]);
-        b = wrapping_add(b, work[p + u]);
-        c = wrapping_add(c, work[p + v]);
-        d = wrapping_add(d, work[p + w]);
-    }
-    work[dst] = a;
-    work[dst + 1] = b;
-    work[dst + 2] = c;
-    work[dst + 3] = d;
-}
-
-// n such sums, one by one; all that is read stands left of dst. The first condition is for e = 0, where nothing is read.
-fn sum_each(work: &mut [i64], at: usize, u: usize, n: usize, t: usize, e: usize, dst: usize)
-    requires { (at + n * u ≤ length work.old + u) × (at + n * u + e * t < dst + u + t) × (dst + n ≤ length work.old) }
-    ensures { work.new ≡ written work.old dst n (combs work.old at u e t) }
-{
-    for i in 0..n {
-        let sum = sum_every(&*work, at + i * u, e, t);
-        work[dst + i] = sum;
-    }
-}
-
-// The same by fours, as far as they go.
-fn sum_combs(work: &mut [i64], at: usize, u: usize, n: usize, t: usize, e: usize, dst: usize)
-    requires { (at + n * u ≤ length work.old + u) × (at + n * u + e * t < dst + u + t) × (dst + n ≤ length work.old) }
-    ensures { work.new ≡ written work.old dst n (combs work.old at u e t) }
-{
-    let mut i: usize = 0;
-    while 4 <= n - i {
-        sum_four(work, at + i * u, u, t, e, dst + i);
-        i += 4;
-    }
-    if i < n {
-        sum_each(work, at + i * u, u, n - i, t, e, dst + i);
-    }
-}
-
-// Sums out the middle axis of (outer, e, inner) cells, block by block.
-fn sum_blocks(work: &mut [i64], src: usize, dst: usize, outer: usize, e: usize, inner: usize)
-    requires { (src + outer * (e * inner) ≤ dst) × (dst + outer * inner ≤ length work.old) }
-    ensures { work.new ≡ written work.old dst (outer * inner) (axis_sums (from work.old src) e inner) }
+// Sums out the middle axis of (outer, extent, inner) cells of the parent, block by block.
+fn sum_blocks(
+    child: &mut [i64],
+    parent: &[i64],
+    src: usize,
+    outer: usize,
+    extent: usize,
+    inner: usize,
+)
+    requires { (0 < extent) × (src + outer * (extent * inner) ≤ length parent.now) × (outer * inner ≤ length child.old) }
+    ensures { child.new ≡ written child.old 0 (outer * inner) (axis_sums (from parent.now src) extent inner) }
 {
     for o in 0..outer {
-        sum_combs(
-            work,
-            src + o * (e * inner),
-            1,
-            inner,
-            inner,
-            e,
-            dst + o * inner,
-        );
+        let rows = Comb {
+            first: src + o * (extent * inner),
+            apart: 1,
+            count: inner,
+            step: inner,
+            values: extent,
+        };
+        sum_combs(child, parent, rows, o * inner);
     }
 }
 
@@ -94,9 +36,22 @@ pub fn sum_axis(work: &mut [i64], src: usize, dst: usize, outer: usize, e: usize
     requires { (src + outer * (e * inner) ≤ dst) × (dst + outer * inner ≤ length work.old) }
     ensures { work.new ≡ written work.old dst (outer * inner) (axis_sums (from work.old src) e inner) }
 {
+    if e == 0 {
+        clear(work, dst, outer * inner);
+        return;
+    }
+    // All that is read stands left of dst.
+    let (parent, child) = work.split_at_mut(dst);
     if inner == 1 {
-        sum_combs(work, src, e, outer, 1, e, dst);
+        let runs = Comb {
+            first: src,
+            apart: e,
+            count: outer,
+            step: 1,
+            values: e,
+        };
+        sum_combs(child, &*parent, runs, 0);
     } else {
-        sum_blocks(work, src, dst, outer, e, inner);
+        sum_blocks(child, &*parent, src, outer, e, inner);
     }
 }

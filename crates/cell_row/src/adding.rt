@@ -1,8 +1,8 @@
 // Rows of cells held side by side: cleared and added.
-ghost use Rattle.std.specs.Prelude.{◌≡◌, ◌+◌, ◌<◌, ◌≤◌, length};
-ghost use Rattle.cell_spec.specs.Rows.{from, written, zeros, add_at, added_to, Apart};
+ghost use Rattle.std.specs.Prelude.{◌≡◌, ◌+◌, ◌<◌, ◌≤◌, length, map};
+ghost use Rattle.cell_spec.specs.Rows.{from, written, zeros, added_to, Apart};
 
-use crate::wrapping::wrapping_add;
+use crate::addend::Addend;
 
 // Clears n cells.
 pub fn clear(work: &mut [i64], at: usize, n: usize)
@@ -14,13 +14,14 @@ pub fn clear(work: &mut [i64], at: usize, n: usize)
     }
 }
 
-// Adds x to one cell.
-fn add_cell(work: &mut [i64], i: usize, x: i64)
-    requires { i < length work.old }
-    ensures { work.new ≡ add_at work.old i x }
+// Adds n values that are neighbours to n cells.
+pub fn add_values<T: Addend>(work: &mut [i64], values: &[T], src: usize, dst: usize, n: usize)
+    requires { (src + n ≤ length values.now) × (dst + n ≤ length work.old) }
+    ensures { work.new ≡ written work.old dst n (added_to work.old dst (from (map T.value values.now) src)) }
 {
-    let old = work[i];
-    work[i] = wrapping_add(old, x);
+    for i in 0..n {
+        work[dst + i] = work[dst + i].wrapping_add(values[src + i].wide());
+    }
 }
 
 // Adds n cells to n others of the same slice.
@@ -28,27 +29,11 @@ pub fn add_row(work: &mut [i64], src: usize, dst: usize, n: usize)
     requires { (src + n ≤ length work.old) × (dst + n ≤ length work.old) × Apart src dst n }
     ensures { work.new ≡ written work.old dst n (added_to work.old dst (from work.old src)) }
 {
-    for i in 0..n {
-        let x = work[src + i];
-        add_cell(work, dst + i, x);
-    }
-}
-
-// Adds a point of the array to one cell.
-fn add_point(work: &mut [i64], i: usize, x: i32)
-    requires { i < length work.old }
-    ensures { work.new ≡ add_at work.old i x }
-{
-    add_cell(work, i, x as i64);
-}
-
-// Adds n points of the array that are neighbours to n cells.
-pub fn add_points(work: &mut [i64], array: &[i32], src: usize, dst: usize, n: usize)
-    requires { (src + n ≤ length array.now) × (dst + n ≤ length work.old) }
-    ensures { work.new ≡ written work.old dst n (added_to work.old dst (from array.now src)) }
-{
-    for i in 0..n {
-        let x = array[src + i];
-        add_point(work, dst + i, x);
+    if src < dst {
+        let (front, back) = work.split_at_mut(dst);
+        add_values(back, &*front, src, 0, n);
+    } else {
+        let (front, back) = work.split_at_mut(src);
+        add_values(front, &*back, 0, dst, n);
     }
 }

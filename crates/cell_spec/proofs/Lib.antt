@@ -2,6 +2,7 @@ pub mod Modulo
 pub mod Bits
 pub mod Placing
 pub mod Writing
+pub mod Halves
 pub mod Offsets
 pub mod Parts
 pub mod Putting

@@ -1,53 +1,28 @@
 -- Sums modulo 2^64: wrapping on the way changes nothing in the end.
-use Prim.Native.Nat.{ℕ, zero, suc, ◌≤◌, ◌<◌, ◌-◌, ◌+◌, ◌*◌, ◌%◌, ◌^◌}
+use Prim.Native.Nat.{ℕ, zero, suc, ◌≤◌, ◌<◌, ◌-◌, ◌+◌, ◌*◌, ◌^◌}
 use native.Mathlib.Nat.{suc-mul, mul-le-mul, le_refl}
 use mathlib.Core.Path.{◌≡◌, sym, ◌∙◌, refl, ap, ap₂}
 use mathlib.Core.Bool.{Bool, true, false, cond}
 use native.Mathlib.Omega.{arith}
-use borrow.Author.Tests.{ltb-true, ltb-false}
+use borrow.Author.Tests.{ltb-true}
 use lib.Dec.{ltb}
-use lib.IntN.{ℤ, pos, negsuc, ◌+ℤ◌, sub_ℕ, +ℤ_idr, +ℤ_comm, nat_abs}
+use lib.IntN.{ℤ, pos, negsuc, ◌+ℤ◌, +ℤ_idr, +ℤ_comm, nat_abs}
 use mir.Syntax.{w64}
-use mir.Val.{to_z, of_z, sel, SFits}
-use mir.Facts.{to_z-of_z}
+use mir.Val.{SFits}
+use Rattle.std.specs.Int.{int_wrap}
+use Rattle.std.proofs.lemmas.Int.{int_wrap_fits, int_wrap-add_left}
 use Rattle.cube_spec.specs.Limits.{point_limit}
 use Rattle.cube_spec.specs.Boxes.{pick, sum_z}
 use Rattle.cell_spec.specs.Wrapped.{residue, wrapped}
 
-neg_mod : (a b : ℕ) → residue (sub_ℕ a (suc b)) ≡ (a % 2 ^ 64 + (2 ^ 64 - 1 - b % 2 ^ 64)) % 2 ^ 64
-unfolding residue
-neg_mod a b = go (ltb a (suc b)) refl
-  where
-    go : (t : Bool) → ltb a (suc b) ≡ t → residue (cond t (negsuc (suc b - suc a)) (pos (a - suc b))) ≡ (a % 2 ^ 64 + (2 ^ 64 - 1 - b % 2 ^ 64)) % 2 ^ 64
-    go true e = let h = ltb-true a (suc b) e in omega arith
-    go false e = let h = ltb-false a (suc b) e in omega arith
-
-pub residue_add : (a b : ℤ) → residue (a +ℤ b) ≡ (residue a + residue b) % 2 ^ 64
-unfolding residue
-residue_add (pos m) (pos n) = omega arith
-residue_add (pos m) (negsuc n) = neg_mod m n
-residue_add (negsuc m) (pos n) =
-    let e : (2 ^ 64 - 1 - m % 2 ^ 64 + n % 2 ^ 64) ≡ n % 2 ^ 64 + (2 ^ 64 - 1 - m % 2 ^ 64) = omega arith in
-    rw e (neg_mod n m)
-residue_add (negsuc m) (negsuc n) = omega arith
-
-residue_to_z : (n : ℕ) → n < 2 ^ 64 → residue (to_z w64 n) ≡ n
-unfolding residue
-residue_to_z n h = go (ltb n 9223372036854775808) refl
-  where
-    go : (t : Bool) → ltb n 9223372036854775808 ≡ t → residue (sel t (pos n) (negsuc (18446744073709551616 - suc n))) ≡ n
-    go true e = omega arith
-    go false e = omega arith
-
-residue_lt : (z : ℤ) → residue z < 2 ^ 64
-unfolding residue
-residue_lt (pos n) = omega arith
-residue_lt (negsuc n) = omega arith
+-- what the library's wrapping sum leaves
+pub as_wrapped : (z : ℤ) → int_wrap w64 z ≡ wrapped z
+unfolding wrapped residue int_wrap
+as_wrapped (pos n) = refl
+as_wrapped (negsuc n) = refl
 
 pub wrapped_add : (a b : ℤ) → wrapped (wrapped a +ℤ b) ≡ wrapped (a +ℤ b)
-unfolding wrapped
-wrapped_add a b =
-    ap (to_z w64) (residue_add (wrapped a) b ∙ ap (λ (x : ℕ). (x + residue b) % 2 ^ 64) (residue_to_z (residue a) (residue_lt a)) ∙ sym (residue_add a b))
+wrapped_add a b = rw (← as_wrapped a, ← as_wrapped (int_wrap w64 a +ℤ b), ← as_wrapped (a +ℤ b)) (int_wrap-add_left w64 a b)
 
 pub wrapped_add_right : (a b : ℤ) → wrapped (a +ℤ wrapped b) ≡ wrapped (a +ℤ b)
 wrapped_add_right a b = ap wrapped (+ℤ_comm a (wrapped b)) ∙ wrapped_add b a ∙ ap wrapped (+ℤ_comm b a)
@@ -67,18 +42,12 @@ wrapped_sum (suc n) f h e =
 
 -- ---- what 64 bits hold does not wrap
 
-pub residue_bits : (z : ℤ) → SFits w64 z → residue z ≡ of_z w64 z
-unfolding residue
-residue_bits (pos n) f = let h : n < 2 ^ 63 = f.sfits in omega arith
-residue_bits (negsuc n) f = let h : n < 2 ^ 63 = f.sfits in omega arith
-
 small_fits : (z : ℤ) → nat_abs z < 2 ^ 63 → SFits w64 z
 small_fits (pos n) h = record { sfits = h }
 small_fits (negsuc n) h = record { sfits = omega arith }
 
 pub wrapped_fits : (z : ℤ) → SFits w64 z → wrapped z ≡ z
-unfolding wrapped
-wrapped_fits z f = rw (residue_bits z f) (to_z-of_z f)
+wrapped_fits z f = sym (as_wrapped z) ∙ int_wrap_fits w64 z f
 
 abs_add : (a b : ℤ) → nat_abs (a +ℤ b) ≤ nat_abs a + nat_abs b
 abs_add (pos m) (pos n) = omega arith

@@ -17,7 +17,7 @@ use Rattle.cube_spec.proofs.Sums.{by, sum_cong}
 use Rattle.cube_spec.proofs.Boxing.{row_of, rest_of}
 use Rattle.cube_spec.proofs.Tables.{table_of}
 use Rattle.cell_spec.specs.Wrapped.{wrapped}
-use Rattle.cell_spec.specs.Rows.{from, placed, written, add_at, added_to, axis_sums, row_sums, Apart}
+use Rattle.cell_spec.specs.Rows.{from, placed, written, add_at, added_to, axis_sums, row_sums}
 use Rattle.cell_spec.proofs.Modulo.{wrapped_add}
 use Rattle.cell_spec.proofs.Placing.{length_placed, unplaced, at_place, placed_cong, placed_more, placed_joined}
 
@@ -106,12 +106,6 @@ pub added_more : (w : List ℤ) (at n : ℕ) (p : ℕ → ℤ) (x : ℤ) → x �
 unfolding added_to from
 added_more w at n p x e = one_more w at n (added_to w at p) _ (ap₂ (λ (a b : ℤ). wrapped (a +ℤ b)) (outside w at n (added_to w at p) (at + n) (inr (omega arith))) e)
 
--- a row's cell is as before while cells apart from it are written
-pub unread : (w : List ℤ) (a b n : ℕ) (f : ℕ → ℤ) (i : ℕ) → Apart a b n → i < n → get_or (written w b i f) (a + i) (pos 0) ≡ from w a i
-unfolding from
-unread w a b n f i (inl h) q = outside w b i f (a + i) (inl (omega arith))
-unread w a b n f i (inr h) q = outside w b i f (a + i) (inr (omega arith))
-
 -- one term more of a sum
 pub sum_more : (n : ℕ) (f : ℕ → ℤ) (s x r : ℤ) → s ≡ wrapped (sum_z n f) → x ≡ f n → r ≡ wrapped (s +ℤ x) → r ≡ wrapped (sum_z (n + 1) f)
 unfolding sum_z
@@ -142,8 +136,3 @@ block_more w at o e n p q h = rw (add-mul, one-mul) (joined w at (o * n) n (axis
 pub from_from : (w : List ℤ) (a b i : ℕ) → from w (a + b) i ≡ from w a (b + i)
 unfolding from
 from_from w a b i = let e : a + b + i ≡ a + (b + i) = omega arith in rw e
-
--- a cell left of those written, counted from two places
-pub left_of : (w : List ℤ) (at n : ℕ) (f : ℕ → ℤ) (a b i : ℕ) → a + (b + i) < at → from (written w at n f) (a + b) i ≡ from w a (b + i)
-unfolding from
-left_of w at n f a b i h = from_from (written w at n f) a b i ∙ outside w at n f (a + (b + i)) (inl h)

@@ -1,6 +1,6 @@
 -- Four rows added at once.
 use Prim.Native.Nat.{ℕ, ◌+◌, ◌*◌, ◌≤◌, ◌<◌}
-use mathlib.Core.Path.{◌≡◌, sym, ◌∙◌, refl, ap, ap₂}
+use mathlib.Core.Path.{◌≡◌, sym, ◌∙◌, ap}
 use mathlib.Core.List.{List}
 use native.Mathlib.Omega.{arith}
 use lib.IntN.{ℤ, pos, ◌+ℤ◌}
@@ -31,9 +31,7 @@ module _ (w a : List ℤ) (at t dst n m : ℕ) (b : dst + n ≤ length w) where
   pub rows_four : written v dst n (added_to v dst (combs a (at + m * t) 1 4 t)) ≡ written w dst n (combs a at 1 (m + 4) t)
   rows_four = over w dst n (combs a at 1 m t) (added_to v dst (combs a (at + m * t) 1 4 t)) b ∙ same w dst n (added_to v dst (combs a (at + m * t) 1 4 t)) (combs a at 1 (m + 4) t) cell
 
--- one cell more, as the code adds it
-pub four_cell : (w a : List ℤ) (at t dst i : ℕ) (x old r : ℤ) → x ≡ wrapped (sum_z 4 (every a (at + i) t)) → old ≡ from w dst i → r ≡ wrapped (old +ℤ x) → r ≡ added_to w dst (combs a at 1 4 t) i
-unfolding added_to combs
-four_cell w a at t dst i x old r e f g =
-    let z : at + i ≡ at + i * 1 = omega arith in
-    g ∙ ap₂ (λ o y. wrapped (o +ℤ y)) f (e ∙ ap (λ s. wrapped (sum_z 4 (every a s t))) z)
+-- a sum of neighbours, as the code reads it
+pub sum_here : (a : List ℤ) (at e t i : ℕ) (x : ℤ) → x ≡ wrapped (sum_z e (every a (at + i) t)) → x ≡ combs a at 1 e t i
+unfolding combs
+sum_here a at e t i x h = let z : at + i ≡ at + i * 1 = omega arith in h ∙ ap (λ s. wrapped (sum_z e (every a s t))) z

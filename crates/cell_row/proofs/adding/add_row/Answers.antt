@@ -1,14 +1,14 @@
-use Rattle.std.proofs.Common.{◌+◌, ◌-◌, get_or, pos, arith, to_z-of_z, w64, SFits, rules}
-use Rattle.cell_spec.specs.Rows.{from, placed, written}
-use Rattle.cell_spec.proofs.Writing.{added_more, unread}
+use Rattle.std.proofs.Common.{arith}
+use Rattle.std.proofs.lemmas.List.{map-id}
+use Rattle.cell_spec.proofs.Halves.{added_right, added_left}
 use Rattle.cell_row.proofs.adding.add_row.Goals as goal
 
-pub loop-i-init : goal.loop-i-init
-unfolding written placed
-loop-i-init c = search rules
+pub returns-then-src-dst : goal.returns-then-src-dst
+returns-then-src-dst c =
+    let s = c.split_at_mut-front.ensures in
+    rw (c.add_values.ensures, map-id c.split_at_mut-front.result.0.now, s.front, s.back) (added_right _ _ _ _ (omega arith) (grind (arith, c.requires.2)))
 
-pub loop-i-preserved : goal.loop-i-preserved
-unfolding from
-loop-i-preserved c =
-    let f : SFits w64 (get_or c.loop-i.work (c.args.src + c.loop-i.i) (pos 0)) = record { sfits = c.x-1.given } in
-    (search rules, search rules, rw (c.add_cell.ensures, to_z-of_z f, c.loop-i.invariant.2) (added_more _ _ _ _ _ (unread _ _ _ _ _ _ c.requires.2 (omega arith))))
+pub returns-else-src-dst : goal.returns-else-src-dst
+returns-else-src-dst c =
+    let s = c.split_at_mut-front-else-src-dst.ensures in
+    rw (c.add_values-else-src-dst.ensures, map-id c.split_at_mut-front-else-src-dst.result.1.now, s.front, s.back) (added_left _ _ _ _ (omega arith) (grind (arith, c.requires.2)))
