@@ -1,22 +1,28 @@
 // How many steps a plan's list has, and a walk over some of its axes.
 ghost use Rattle.std.specs.Prelude.{◌≡◌, ℕ, ◌+◌, ◌-◌, ◌*◌, ◌^◌, ◌≤◌, ◌<◌};
+ghost use Rattle.cube_spec.specs.Refusals.{reply_of};
 ghost use Rattle.plan_spec.specs.Plans.{lists_of, step_count};
 ghost use Rattle.plan_spec.specs.Refusals.{plan_refusal};
 ghost use Rattle.rack_spec.specs.Counts.{span, sendings, marks, walk_count};
 ghost use Rattle.rack_spec.specs.Finding.{plan_grid};
-ghost use Rattle.rack_spec.specs.Answers.{counted_reply, counting};
+ghost use Rattle.rack_spec.specs.Answers.{counting};
 ghost use Rattle.rack_count.specs.Tallied.{Tallied};
 
-use plan_check::plan_refusal;
+use cube_spec::refusals::Refusal;
+use plan_check::check_plan;
 use plan_spec::types::Plan;
-use rack_spec::types::Counted;
 
-// At each place up to the number of axes: the ways to label the axes from there on, and the transfers of a walk over them.
-// Narrow, since what a board holds is found by handing them down at every turn.
-#[derive(Clone, Copy)]
+// Of the axes from a place on: the ways to label them, and the transfers of a walk over them.
+#[derive(Clone, Copy, Debug, PartialEq, Eq)]
+pub struct Tally {
+    pub span: u32,
+    pub sent: u32,
+}
+
+// The tallies at each place up to the number of axes. Narrow, since what a board holds is found by handing them down at every turn.
+#[derive(Clone, Copy, Debug, PartialEq, Eq)]
 pub struct Tallies {
-    pub span: [u32; 9],
-    pub sent: [u32; 9],
+    pub places: [Tally; 9],
 }
 
 // Into how many portions the axis at place d is cut.
@@ -25,7 +31,7 @@ pub fn parts_of(plan: Plan, d: usize) -> u64
     ensures { (result ≡ (plan_grid plan).parts d) × (1 ≤ result) × (result ≤ 1024) }
 {
     let axis = plan.order[d] as usize;
-    1u64 << plan.exponents[axis]
+    1 << plan.exponents[axis]
 }
 
 // From the last axis to the first.
@@ -33,18 +39,16 @@ pub fn tallies_of(plan: Plan) -> Tallies
     requires { plan_refusal plan ≡ 0 }
     ensures { Tallied plan result }
 {
-    let mut span = [1u32; 9];
-    let mut sent = [0u32; 9];
-    let mut d = plan.axes as usize;
-    while 0 < d {
-        let ways = span[d] as u64;
-        let below = sent[d] as u64;
-        d -= 1;
-        let parts = parts_of(plan, d);
-        span[d] = (parts * ways) as u32;
-        sent[d] = (below * (parts + 1) + ways * (parts - 1)) as u32;
+    let mut places = [Tally { span: 1, sent: 0 }; 9];
+    for d in (0..plan.axes as usize).rev() {
+        let parts = parts_of(plan, d) as u32;
+        let next = places[d + 1];
+        places[d] = Tally {
+            span: parts * next.span,
+            sent: next.sent * (parts + 1) + next.span * (parts - 1),
+        };
     }
-    Tallies { span, sent }
+    Tallies { places }
 }
 
 // The finishes and the expansions of a walk over m axes.
@@ -55,7 +59,7 @@ fn marks_of(m: usize) -> u64
     if m == 0 {
         return 0;
     }
-    ((1u64 << m) - 1) + ((1u64 << (m - 1)) - 1)
+    ((1 << m) - 1) + ((1 << (m - 1)) - 1)
 }
 
 // The steps of a walk over m axes that sends `sent` transfers for each of n labellings. On numbers, since the search for a step asks it in every turn.
@@ -63,8 +67,7 @@ pub fn count_with(sent: u32, m: usize, n: u64) -> u64
     requires { (sent ≤ 262144) × (m ≤ 8) × (n ≤ 1024) }
     ensures { (result ≡ sent * n + marks m) × (result < 2 ^ 32) }
 {
-    let others = marks_of(m);
-    (sent as u64) * n + others
+    u64::from(sent) * n + marks_of(m)
 }
 
 // The steps of the walk over the axes from place d on, of a choice whose kept axes before d have n labellings.
@@ -72,7 +75,7 @@ pub fn walk_count(plan: Plan, d: usize, n: u64, tallies: Tallies) -> u64
     requires { (plan_refusal plan ≡ 0) × (d ≤ plan.axes) × (n ≤ 1024) × (Tallied plan tallies) }
     ensures { (result ≡ walk_count (plan_grid plan) (plan.axes - d) d n) × (result < 2 ^ 32) }
 {
-    count_with(tallies.sent[d], plan.axes as usize - d, n)
+    count_with(tallies.places[d].sent, plan.axes as usize - d, n)
 }
 
 // The transfers of the child that sums out the axis at place d.
@@ -80,8 +83,7 @@ pub fn transfer_count(plan: Plan, d: usize, n: u64, tallies: Tallies) -> u64
     requires { (plan_refusal plan ≡ 0) × (d < plan.axes) × (n ≤ 1024) × (Tallied plan tallies) }
     ensures { (result ≡ n * span (plan_grid plan) (plan.axes - (d + 1)) (d + 1) * ((plan_grid plan).parts d - 1)) × (result < 2 ^ 32) }
 {
-    let parts = parts_of(plan, d);
-    n * (tallies.span[d + 1] as u64) * (parts - 1)
+    n * u64::from(tallies.places[d + 1].span) * (parts_of(plan, d) - 1)
 }
 
 // T, of a plan that no check refuses, by its tallies.
@@ -89,8 +91,7 @@ pub fn steps_by(plan: Plan, tallies: Tallies) -> u64
     requires { (plan_refusal plan ≡ 0) × (Tallied plan tallies) }
     ensures { result ≡ step_count (lists_of plan) }
 {
-    let others = walk_count(plan, 0, 1, tallies);
-    others + 1
+    walk_count(plan, 0, 1, tallies) + 1
 }
 
 // T, of a plan that no check refuses.
@@ -98,17 +99,13 @@ pub fn steps_of(plan: Plan) -> u64
     requires { plan_refusal plan ≡ 0 }
     ensures { result ≡ step_count (lists_of plan) }
 {
-    let tallies = tallies_of(plan);
-    steps_by(plan, tallies)
+    steps_by(plan, tallies_of(plan))
 }
 
 // The public entry: T, or the plan's refusal.
-pub fn step_count(plan: Plan) -> Counted
-    ensures { counted_reply result ≡ counting plan }
+pub fn step_count(plan: Plan) -> Result<u64, Refusal>
+    ensures { reply_of result ≡ counting plan }
 {
-    let refusal = plan_refusal(plan);
-    if refusal != 0 {
-        return Counted::Refused(refusal);
-    }
-    Counted::Steps(steps_of(plan))
+    check_plan(plan)?;
+    Ok(steps_of(plan))
 }

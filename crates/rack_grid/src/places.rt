@@ -27,16 +27,14 @@ pub fn lead_labels(plan: Plan, choice: Choice, rank: u64) -> [u64; 8]
     requires { (plan_refusal plan ≡ 0) × (rank < leads (plan_grid plan) (summed_in plan choice.mask)) }
     ensures { result ≡ padded (table plan.axes (lead_label (plan_grid plan) (summed_in plan choice.mask) rank)) }
 {
-    let mut labels = [0u64; 8];
+    let mut labels = [0; 8];
     let mut rest = rank;
-    let mut d = plan.axes as usize;
-    while 0 < d {
-        d -= 1;
+    for d in (0..plan.axes as usize).rev() {
         let axis = plan.order[d];
         if choice.keeps(axis) {
-            let parts = 1u64 << plan.exponents[axis as usize];
+            let parts = 1 << plan.exponents[axis as usize];
             labels[d] = rest % parts;
-            rest = rest / parts;
+            rest /= parts;
         }
     }
     labels
@@ -48,9 +46,10 @@ fn kept_parts(plan: Plan, choice: Choice, d: usize) -> u64
     ensures { (result ≡ kept (summed_in plan choice.mask) (plan_grid plan).parts d) × (result ≤ 1024) }
 {
     if choice.keeps(plan.order[d]) {
-        return parts_of(plan, d);
+        parts_of(plan, d)
+    } else {
+        1
     }
-    1
 }
 
 // How many leads a choice has.
@@ -58,12 +57,9 @@ pub fn leads_of(plan: Plan, choice: Choice) -> u64
     requires { plan_refusal plan ≡ 0 }
     ensures { (result ≡ leads (plan_grid plan) (summed_in plan choice.mask)) × (result ≤ 1024) }
 {
-    let mut count: u64 = 1;
-    let mut d: usize = 0;
-    while d < plan.axes as usize {
-        let parts = kept_parts(plan, choice, d);
-        count = count * parts;
-        d += 1;
+    let mut count = 1;
+    for d in 0..plan.axes as usize {
+        count *= kept_parts(plan, choice, d);
     }
     count
 }
@@ -73,8 +69,7 @@ pub fn labels_of(plan: Plan, board: u64) -> [u64; 8]
     requires { (plan_refusal plan ≡ 0) × (board < boards (plan_grid plan)) }
     ensures { result ≡ padded (table plan.axes (label (plan_grid plan) board)) }
 {
-    let full = Choice::full(plan.axes);
-    lead_labels(plan, full, board)
+    lead_labels(plan, Choice::full(plan.axes), board)
 }
 
 // And back: the board that has these labels.
@@ -82,13 +77,11 @@ pub fn board_of(plan: Plan, labels: [u64; 8]) -> u64
     requires { (plan_refusal plan ≡ 0) × (Labels plan labels) }
     ensures { (result ≡ board_with (plan_grid plan) (λ d. get_or labels d 0)) × (result < 1024) }
 {
-    let mut board: u64 = 0;
-    let mut d: usize = 0;
-    while d < plan.axes as usize {
+    let mut board = 0;
+    for d in 0..plan.axes as usize {
         let axis = plan.order[d] as usize;
-        let parts = 1u64 << plan.exponents[axis];
+        let parts = 1 << plan.exponents[axis];
         board = board * parts + labels[d];
-        d += 1;
     }
     board
 }
@@ -98,10 +91,7 @@ fn lead_may(plan: Plan, choice: Choice, d: usize, l: u64) -> bool
     requires { (plan_refusal plan ≡ 0) × (d < plan.axes) }
     ensures { result ≡ (eqb l 0 || not (has (summed_in plan choice.mask) d)) }
 {
-    if l == 0 {
-        return true;
-    }
-    choice.keeps(plan.order[d])
+    l == 0 || choice.keeps(plan.order[d])
 }
 
 // Has a board label 0 on every axis that a choice sums out? The last axis first, up to the first label that says no.
@@ -110,14 +100,12 @@ pub fn is_lead(plan: Plan, choice: Choice, board: u64) -> bool
     ensures { result ≡ lead (plan_grid plan) (summed_in plan choice.mask) board }
 {
     let mut rest = board;
-    let mut d = plan.axes as usize;
-    while 0 < d {
-        d -= 1;
+    for d in (0..plan.axes as usize).rev() {
         let parts = parts_of(plan, d);
         if !lead_may(plan, choice, d, rest % parts) {
             return false;
         }
-        rest = rest / parts;
+        rest /= parts;
     }
     true
 }
@@ -127,15 +115,16 @@ pub fn cells_between(plan: Plan, choice: Choice, labels: [u64; 8], first: usize,
     requires { (plan_refusal plan ≡ 0) × (Labels plan labels) × (first ≤ end) × (end ≤ plan.axes) }
     ensures { (result ≡ product (box (plan_grid plan) (summed_in plan choice.mask) (board_with (plan_grid plan) (λ d. get_or labels d 0))) (end - first) first) × (result ≤ point_limit) }
 {
-    let mut count: u64 = 1;
-    let mut d = first;
-    while d < end {
+    let mut count = 1;
+    for d in first..end {
         let axis = plan.order[d];
-        let kept = choice.keeps(axis);
         let i = axis as usize;
-        let extent = kept_portion(kept, plan.lengths[i], plan.exponents[i], labels[d]);
-        count = count * extent;
-        d += 1;
+        count *= kept_portion(
+            choice.keeps(axis),
+            plan.lengths[i],
+            plan.exponents[i],
+            labels[d],
+        );
     }
     count
 }
@@ -153,8 +142,7 @@ pub fn cells_of(plan: Plan, choice: Choice, board: u64) -> u64
     requires { (plan_refusal plan ≡ 0) × (board < boards (plan_grid plan)) }
     ensures { (result ≡ cells (plan_grid plan) (summed_in plan choice.mask) board) × (result ≤ point_limit) }
 {
-    let labels = labels_of(plan, board);
-    cells_with(plan, choice, labels)
+    cells_with(plan, choice, labels_of(plan, board))
 }
 
 // The first place that is later than every axis that a choice sums out.
@@ -162,12 +150,10 @@ pub fn next_of(plan: Plan, choice: Choice) -> usize
     requires { plan_refusal plan ≡ 0 }
     ensures { (result ≡ next (summed_in plan choice.mask)) × (result ≤ plan.axes) }
 {
-    let mut d = plan.axes as usize;
-    while 0 < d {
-        if !choice.keeps(plan.order[d - 1]) {
-            return d;
+    for d in (0..plan.axes as usize).rev() {
+        if !choice.keeps(plan.order[d]) {
+            return d + 1;
         }
-        d -= 1;
     }
     0
 }
@@ -177,8 +163,7 @@ pub fn share_of(plan: Plan) -> u64
     requires { plan_refusal plan ≡ 0 }
     ensures { (result ≡ share (plan_grid plan)) × (result ≤ point_limit * plan.axes) }
 {
-    let regions = region_of(plan, 0);
-    regions.share
+    region_of(plan, 0).share
 }
 
 // Where region i of a board's share starts in the work area.

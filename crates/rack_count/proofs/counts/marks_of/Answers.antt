@@ -5,7 +5,6 @@ use lib.Pow.{pow_mono}
 use Rattle.plan_spec.proofs.PricingLaws.{shifted}
 use Rattle.rack_spec.specs.Counts.{marks}
 use Rattle.rack_spec.proofs.Tallied.{marks_some}
-use borrow.Author.Rules.{rules}
 use Rattle.rack_count.proofs.counts.marks_of.Goals as goal
 
 pub returns-then-m-eq0 : goal.returns-then-m-eq0

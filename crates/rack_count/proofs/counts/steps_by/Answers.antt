@@ -10,4 +10,4 @@ pub returns : goal.returns
 returns c =
     let gd = c.well_formed.0.1.1.1.1 in
     let ok = passed_accepted c.args.plan (search rules) (search rules) (search rules) c.requires.0 in
-    ap (λ x. x + 1) c.walk_count-others.ensures.0 ∙ sym (steps_same c.args.plan ok)
+    ap (λ x. x + 1) c.walk_count.ensures.0 ∙ sym (steps_same c.args.plan ok)

@@ -1,23 +1,43 @@
-use native.Mathlib.Omega.{arith}
+use Rattle.std.proofs.Common.{◌+◌, ◌-◌, ◌≤◌, arith, rules, refl, ap, ◌∙◌}
 use Rattle.plan_spec.proofs.Accepting.{passed_accepted}
-use Prim.Native.Nat.{◌+◌, ◌-◌, ◌≤◌}
-use mathlib.Core.Path.{refl}
 use Rattle.plan_spec.proofs.PricingLaws.{few_axes}
 use Rattle.rack_spec.proofs.Tallied.{sent_fits}
-use Rattle.rack_count.proofs.Tallying.{span_at, span_told}
-use borrow.Author.Rules.{rules}
+use Rattle.rack_count.proofs.Tallying.{tallied_at, tally_small}
+use Rattle.rack_count.specs.declared.counts.Tally.{Tally}
 use Rattle.rack_count.proofs.counts.transfer_count.Goals as goal
 
 pub bounds-tallies-d : goal.bounds-tallies-d
-bounds-tallies-d c = let gd = c.well_formed.0.1.1.1.1 in let ok = passed_accepted c.args.plan (search rules) (search rules) (search rules) c.requires.0 in let f = few_axes ok in omega (arith, c.requires.1)
+bounds-tallies-d c =
+    let w = c.well_formed in
+    let ok = passed_accepted c.args.plan (search rules) (search rules) (search rules) c.requires.0 in
+    let f = few_axes ok in
+    omega (arith, c.requires.1)
+
+pub overflow_mul-result : goal.overflow_mul-result
+overflow_mul-result c =
+    let w = c.well_formed in
+    let ok = passed_accepted c.args.plan (search rules) (search rules) (search rules) c.requires.0 in
+    let l : c.args.d + 1 ≤ c.args.plan.axes = omega (arith, c.requires.1) in
+    let e = c.from.ensures ∙ ap (λ (t : Tally). t.span) (tallied_at c.args.plan ok c.requires.3 (c.args.d + 1) l) in
+    let s = sent_fits c.args.n c.from.result 1 c.requires.2 (rw e (tally_small c.args.plan ok (c.args.d + 1) l).0) (omega arith) in
+    omega arith
+
+pub overflow_mul-result-2 : goal.overflow_mul-result-2
+overflow_mul-result-2 c =
+    let w = c.well_formed in
+    let ok = passed_accepted c.args.plan (search rules) (search rules) (search rules) c.requires.0 in
+    let l : c.args.d + 1 ≤ c.args.plan.axes = omega (arith, c.requires.1) in
+    let e = c.from.ensures ∙ ap (λ (t : Tally). t.span) (tallied_at c.args.plan ok c.requires.3 (c.args.d + 1) l) in
+    let p = c.parts_of.ensures in
+    let s = sent_fits c.args.n c.from.result (c.parts_of.result - 1) c.requires.2 (rw e (tally_small c.args.plan ok (c.args.d + 1) l).0) (omega arith) in
+    omega arith
 
 pub returns : goal.returns
 returns c =
-    let q = c.args.plan in
-    let gd = c.well_formed.0.1.1.1.1 in
-    let ok = passed_accepted q (search rules) (search rules) (search rules) c.requires.0 in
-    let h : c.args.d + 1 ≤ q.axes = omega (arith, c.requires.1) in
-    let a = span_told q ok c.requires.3 (c.args.d + 1) h in
-    let p = c.parts_of-parts.ensures in
-    let r : c.parts_of-parts.result - 1 ≤ 1024 = omega arith in
-    (rw (span_at q ok c.requires.3 (c.args.d + 1) h, p.0) refl, sent_fits _ _ _ c.requires.2 a r)
+    let w = c.well_formed in
+    let ok = passed_accepted c.args.plan (search rules) (search rules) (search rules) c.requires.0 in
+    let l : c.args.d + 1 ≤ c.args.plan.axes = omega (arith, c.requires.1) in
+    let e = c.from.ensures ∙ ap (λ (t : Tally). t.span) (tallied_at c.args.plan ok c.requires.3 (c.args.d + 1) l) in
+    let p = c.parts_of.ensures in
+    let s = sent_fits c.args.n c.from.result (c.parts_of.result - 1) c.requires.2 (rw e (tally_small c.args.plan ok (c.args.d + 1) l).0) (omega arith) in
+    (rw (← e, ← p.0) refl, s)

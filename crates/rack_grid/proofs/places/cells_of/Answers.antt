@@ -13,13 +13,13 @@ cells_with-requires c =
     let q = c.args.plan in
     let gd = c.well_formed.0.1.1.1.1 in
     let ok = passed_accepted q (search rules) (search rules) (search rules) c.requires.0 in
-    let own = table_slots q.axes _ c.labels_of-labels.result (few_axes ok) c.labels_of-labels.ensures in
-    (c.requires.0, own_fit q ok c.args.board c.requires.1 c.labels_of-labels.result own.1)
+    let own = table_slots q.axes _ c.labels_of.result (few_axes ok) c.labels_of.ensures in
+    (c.requires.0, own_fit q ok c.args.board c.requires.1 c.labels_of.result own.1)
 
 pub returns : goal.returns
 returns c =
     let q = c.args.plan in
-    let l = c.labels_of-labels in
+    let l = c.labels_of in
     let gd = c.well_formed.0.1.1.1.1 in
     let ok = passed_accepted q (search rules) (search rules) (search rules) c.requires.0 in
     let own = table_slots q.axes _ l.result (few_axes ok) l.ensures in

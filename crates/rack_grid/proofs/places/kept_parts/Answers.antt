@@ -21,8 +21,8 @@ returns-then-keeps c =
     let k = axis_kept c.args.plan ok c.args.choice.mask c.args.d c.requires.1 (sym c.keeps.ensures ∙ c.if-keeps.true) in
     (c.parts_of.ensures.0 ∙ sym (kept_out (plan_grid c.args.plan).parts (summed_in c.args.plan c.args.choice.mask) c.args.d k), c.parts_of.ensures.2)
 
-pub returns : goal.returns
-returns c =
+pub returns-else-keeps : goal.returns-else-keeps
+returns-else-keeps c =
     let gd = c.well_formed.0.1.1.1.1 in
     let ok = passed_accepted c.args.plan (search rules) (search rules) (search rules) c.requires.0 in
     let k = axis_summed c.args.plan ok c.args.choice.mask c.args.d c.requires.1 (sym c.keeps.ensures ∙ c.if-keeps.false) in

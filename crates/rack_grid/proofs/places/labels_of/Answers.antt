@@ -11,7 +11,7 @@ pub lead_labels-requires : goal.lead_labels-requires
 lead_labels-requires c =
     let gd = c.well_formed.0.1.1.1.1 in
     let ok = passed_accepted c.args.plan (search rules) (search rules) (search rules) c.requires.0 in
-    (c.requires.0, rw (c.full-full.ensures, full_leads c.args.plan ok) c.requires.1)
+    (c.requires.0, rw (c.full.ensures, full_leads c.args.plan ok) c.requires.1)
 
 pub returns : goal.returns
 returns c =
@@ -19,5 +19,5 @@ returns c =
     let gd = c.well_formed.0.1.1.1.1 in
     let ok = passed_accepted q (search rules) (search rules) (search rules) c.requires.0 in
     c.lead_labels.ensures
-    ∙ ap (λ m. padded (table q.axes (lead_label (plan_grid q) (summed_in q m) c.args.board))) c.full-full.ensures
+    ∙ ap (λ m. padded (table q.axes (lead_label (plan_grid q) (summed_in q m) c.args.board))) c.full.ensures
     ∙ full_labels q ok c.args.board

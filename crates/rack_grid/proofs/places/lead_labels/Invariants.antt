@@ -1,12 +1,7 @@
-use Prim.Native.Nat.{◌≤◌}
-use mathlib.Core.Path.{◌≡◌}
-use lib.ListN.{length}
+use Rattle.std.proofs.Common.{◌≡◌, length}
 use Rattle.plan_spec.specs.Accepted.{Accepted}
 use Rattle.rack_spec.proofs.Planned.{Ranking}
 use Rattle.rack_grid.proofs.places.lead_labels.Given as goal
 
 abbrev pub invariant-loop-d : goal.invariant-loop-d
-invariant-loop-d l = (Accepted l.plan) × (l.d ≤ l.plan.axes) × (length l.labels ≡ 8) × Ranking l.plan l.choice.mask l.rank l.labels l.rest l.d
-
-abbrev pub decreases-loop-d : goal.decreases-loop-d
-decreases-loop-d l = l.d
+invariant-loop-d l = (Accepted l.plan) × (length l.labels ≡ 8) × Ranking l.plan l.choice.mask l.rank l.labels l.rest l.d

@@ -1,4 +1,4 @@
-use Prim.Native.Nat.{◌-◌, ◌*◌, ◌≤◌}
+use Prim.Native.Nat.{◌*◌, ◌≤◌}
 use mathlib.Core.Path.{◌≡◌, ◌∙◌, ap, ap₂}
 use native.Mathlib.Omega.{arith}
 use native.Mathlib.Nat.{mul-le-mul}
@@ -13,25 +13,25 @@ use Rattle.rack_grid.proofs.places.leads_of.Goals as goal
 pub loop-d-init : goal.loop-d-init
 loop-d-init c = let gd = c.well_formed.0.1.1.1.1 in
     let ok = passed_accepted c.args.plan (search rules) (search rules) (search rules) c.requires in
-    (ok, omega arith, count_none c.args.plan ok c.args.choice.mask)
+    (ok, count_none c.args.plan ok c.args.choice.mask)
 
 pub overflow_mul-count : goal.overflow_mul-count
 overflow_mul-count c =
     let i = c.loop-d.invariant in
-    let a = count_small c.args.plan i.0 c.args.choice.mask c.loop-d.d i.1 in
-    let b : c.loop-d.count ≤ 1024 = (let e = i.2 in omega arith) in
-    let m = mul-le-mul b c.kept_parts-parts.ensures.1 in
+    let a = count_small c.args.plan i.0 c.args.choice.mask c.loop-d.d c.loop-d.auto.d-end in
+    let b : c.loop-d.count ≤ 1024 = (let e = i.1 in omega arith) in
+    let m = mul-le-mul b c.kept_parts-count.ensures.1 in
     omega arith
 
 pub loop-d-preserved : goal.loop-d-preserved
 loop-d-preserved c =
     let i = c.loop-d.invariant in
-    (i.0, omega (arith, c.loop-d-test.true), ap₂ ◌*◌ i.2 c.kept_parts-parts.ensures.0 ∙ count_turn c.args.plan i.0 c.args.choice.mask c.loop-d.d)
+    (i.0, ap₂ ◌*◌ i.1 c.kept_parts-count.ensures.0 ∙ count_turn c.args.plan i.0 c.args.choice.mask c.loop-d.d)
 
 pub returns : goal.returns
 returns c =
     let i = c.loop-d.invariant in
-    let e : c.loop-d.d ≡ c.args.plan.axes = omega (arith, i.1, c.loop-d-test.false) in
-    let a = count_small c.args.plan i.0 c.args.choice.mask c.loop-d.d i.1 in
-    let b = i.2 in
-    (i.2 ∙ ap (λ n. product (kept (summed_in c.args.plan c.args.choice.mask) (plan_grid c.args.plan).parts) n 0) e ∙ count_end c.args.plan i.0 c.args.choice.mask, omega arith)
+    let e : c.loop-d.d ≡ c.args.plan.axes = omega (arith, c.loop-d.auto.d-end, c.loop-d-test.false) in
+    let a = count_small c.args.plan i.0 c.args.choice.mask c.loop-d.d c.loop-d.auto.d-end in
+    let b = i.1 in
+    (i.1 ∙ ap (λ n. product (kept (summed_in c.args.plan c.args.choice.mask) (plan_grid c.args.plan).parts) n 0) e ∙ count_end c.args.plan i.0 c.args.choice.mask, omega arith)

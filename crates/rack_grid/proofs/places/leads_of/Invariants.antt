@@ -1,6 +1,4 @@
--- `rack_grid::places::leads_of` meets its contract.
-use Prim.Native.Nat.{◌-◌, ◌≤◌}
-use mathlib.Core.Path.{◌≡◌}
+use Rattle.std.proofs.Common.{◌≡◌}
 use Rattle.cube_spec.specs.Boxes.{product}
 use Rattle.cube_spec.specs.Tree.{kept}
 use Rattle.plan_spec.specs.Accepted.{Accepted}
@@ -8,7 +6,4 @@ use Rattle.rack_spec.specs.Finding.{plan_grid, summed_in}
 use Rattle.rack_grid.proofs.places.leads_of.Given as goal
 
 abbrev pub invariant-loop-d : goal.invariant-loop-d
-invariant-loop-d l = (Accepted l.plan) × (l.d ≤ l.plan.axes) × (l.count ≡ product (kept (summed_in l.plan l.choice.mask) (plan_grid l.plan).parts) l.d 0)
-
-abbrev pub decreases-loop-d : goal.decreases-loop-d
-decreases-loop-d l = l.plan.axes - l.d
+invariant-loop-d l = (Accepted l.plan) × (l.count ≡ product (kept (summed_in l.plan l.choice.mask) (plan_grid l.plan).parts) l.d 0)

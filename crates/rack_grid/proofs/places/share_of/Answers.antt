@@ -8,4 +8,4 @@ pub returns : goal.returns
 returns c =
     let gd = c.well_formed.0.1.1.1.1 in
     let ok = passed_accepted c.args.plan (search rules) (search rules) (search rules) c.requires in
-    (c.region_of-regions.ensures.1 ∙ share_plan c.args.plan ok, c.region_of-regions.ensures.3)
+    (c.region_of.ensures.1 ∙ share_plan c.args.plan ok, c.region_of.ensures.3)
