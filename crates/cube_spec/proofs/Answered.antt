@@ -1,8 +1,8 @@
 -- Laws of an entry's answer by its number: a value where that is 0, and else the number alone.
 use Prim.Native.Nat.{ℕ, zero, suc, ◌<◌}
-use mathlib.Core.Path.{◌≡◌, refl, sym, ◌∙◌}
+use mathlib.Core.Path.{◌≡◌, refl}
 use native.Mathlib.Omega.{arith}
-use Rattle.cube_spec.specs.Checks.{Reply, gives, refuses, answered}
+use Rattle.cube_spec.specs.Checks.{gives, refuses, answered}
 use Rattle.cube_spec.specs.declared.refusals.Refusal.{Refusal}
 use Rattle.cube_spec.specs.Refusals.{number_of}
 use Rattle.cube_spec.proofs.Numbers.{number_positive}
@@ -17,6 +17,11 @@ module _ {A : Type 0} where
   unfolding answered
   refuses_is zero m a e = absurd (cc)
   refuses_is (suc n) m a e = cc
+
+  pub refuses_some : (n m : ℕ) (a : A) → refuses m ≡ answered n a → m ≡ 0 → ⊥
+  unfolding answered
+  refuses_some zero m a e h = absurd (cc)
+  refuses_some (suc n) m a e h = let k : m ≡ suc n = cc in omega arith
 
   pub given : (n : ℕ) (a : A) → n ≡ 0 → gives a ≡ answered n a
   unfolding answered

@@ -3,9 +3,11 @@
 
 ghost use Rattle.std.specs.Prelude.{◌≡◌, ◌+◌, ◌≤◌, ◌<◌, length, drop, replicate};
 ghost use Rattle.std.proofs.lemmas.List.Edits.{sets};
+ghost use Rattle.cube_spec.specs.Refusals.{refused_by};
 ghost use Rattle.tape_spec.specs.Reading.{reading_refusal, filled_or, reading};
 ghost use Rattle.tape_spec.specs.Decoding.{left, Passed, points_in};
 
+use cube_spec::refusals::Refusal;
 use tape_command::decode;
 use tape_reading::{point_of, reading_of};
 use tape_scan::scan;
@@ -29,15 +31,15 @@ fn store(tape: &[u8], start: usize, slice: &mut [i32])
 {
     let mut at = start;
     let mut done: usize = 0;
-    loop {
-        match decode(tape, at) {
+    while let Some(command) = decode(tape, at) {
+        match command {
             Command::Points(n, v, next) => {
                 put_points(slice, done, n, v);
                 done += n;
                 at = next;
             }
-            Command::Float(command, bits, next) => {
-                slice[done] = point_of(reading_of(command, bits));
+            Command::Float(byte, bits, next) => {
+                slice[done] = point_of(reading_of(byte, bits));
                 done += 1;
                 at = next;
             }
@@ -52,8 +54,8 @@ pub fn fill_scanned(tape: &[u8], slice: &mut [i32])
     ensures { slice.new ≡ reading tape.now slice.old }
 {
     let mut at: usize = 0;
-    loop {
-        match decode(tape, at) {
+    while let Some(command) = decode(tape, at) {
+        match command {
             Command::Axis(_, next) => at = next,
             Command::Boards(_, next) => {
                 store(tape, next, slice);
@@ -65,17 +67,15 @@ pub fn fill_scanned(tape: &[u8], slice: &mut [i32])
 }
 
 // Puts the points of a tape at the start of a slice, once its form, its readings and the number of points are judged.
-pub fn fill(tape: &[u8], slice: &mut [i32]) -> u8
-    ensures { (result ≡ reading_refusal tape.now (length slice.old))
-        × (slice.new ≡ reading tape.now slice.old) }
+#[tactic(auto, using(tape_spec::proofs::Refusing::reads))]
+pub fn fill(tape: &[u8], slice: &mut [i32]) -> Result<(), Refusal>
+    ensures refusal { refused_by result ≡ reading_refusal tape.now (length slice.old) }
+    ensures points { slice.new ≡ reading tape.now slice.old }
 {
-    let found = scan(tape);
-    if found.refusal != 0 {
-        return found.refusal;
-    }
+    let found = scan(tape)?;
     if (slice.len() as u64) < found.points {
-        return 11;
+        return Err(Refusal::Memory);
     }
     fill_scanned(tape, slice);
-    0
+    Ok(())
 }

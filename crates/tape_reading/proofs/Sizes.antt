@@ -15,7 +15,7 @@ use Rattle.tape_reading.specs.Patterns.{negative, field, digits, not_finite, man
 use Rattle.tape_reading.specs.Readings.{metre, kilometre, largest, in_range, refusal_in, value_in, from_bits}
 use Rattle.tape_reading.specs.inner.Taken.{Taken, Scale, Refuses}
 use Rattle.tape_reading.proofs.Nearest.{nearest_mono}
-use Rattle.tape_reading.proofs.Readings.{in_range_lem, out_of_range}
+use Rattle.tape_reading.proofs.Readings.{in_range_lem, out_of_range, from_bits_lem}
 
 -- ---- the order of sizes
 
@@ -92,6 +92,9 @@ kilometres_taken = bordered kilometre 0x46A7C5AC 2147483594 2147483789 (omega ar
 
     at_next : nearest (parts (0x46A7C5AC + 1) * kilometre) (2 ^ 149) ≡ 2147483789
     at_next = unfold computing in refl
+
+-- what judges a float's command: the last size that is taken on each scale, and a float by its bits
+pub ruleset judges = (metres_taken, kilometres_taken, from_bits_lem)
 
 -- ---- what a float's bits give, by their size
 

@@ -2,11 +2,13 @@
 #![tactic(auto)]
 
 ghost use Rattle.std.specs.Prelude.{◌≡◌, ◌*◌, ◌^◌, ◌<◌, ◌≤◌};
+ghost use Rattle.cube_spec.specs.Refusals.{refused_by};
 ghost use Rattle.tape_reading.specs.Nearest as Nearest;
 ghost use Rattle.tape_reading.specs.Patterns.{parts};
 ghost use Rattle.tape_reading.specs.Readings.{signed32, Floating, reading_of, in_centimetres, centimetres_of, refusal_in, value_in, from_bits};
 ghost use Rattle.tape_reading.specs.inner.Taken.{Scale, Refuses};
 
+use cube_spec::refusals::Refusal;
 use types::Reading;
 
 pub mod types;
@@ -29,17 +31,15 @@ const LAST_KILOMETRES: u32 = 0x46A7C5AC;
 // ---- a reading from the operand of its command
 
 // The signed number whose bits are n.
+#[tactic(auto, unfolding(crate::specs::Readings::signed32))]
 pub fn signed(n: u32) -> i32
     ensures { result ≡ signed32 n }
 {
-    if n < SIGN {
-        return n as i32;
-    }
-    let m = (4294967295 - n) as i32;
-    !m
+    n.cast_signed()
 }
 
 // The reading of a float's command that is not refused: its bits are a number's.
+#[tactic(auto, using(crate::proofs::Patterns::number_bits), unfolding(crate::specs::Readings::reading_of, crate::specs::Readings::centimetres_of))]
 pub fn reading_of(command: u8, n: u32) -> Reading
     requires { Floating command × (refusal_in (centimetres_of (reading_of command n)) ≡ 0) }
     ensures { result ≡ reading_of command n }
@@ -52,34 +52,37 @@ pub fn reading_of(command: u8, n: u32) -> Reading
 
 // ---- refusals, by the size alone: where a number is too far, all larger ones are
 
-// The refusal of a float by its bits, 0 for none.
-fn judged(n: u32, last: u32) -> u8
-    ensures { Refuses result last (λ scale. from_bits scale n) }
+// A float judged by its bits.
+fn check_size(n: u32, last: u32) -> Result<(), Refusal>
+    ensures { Refuses (refused_by result) last (λ scale. from_bits scale n) }
 {
     let size = n % SIGN;
     if size <= last {
-        return 0;
+        return Ok(());
     }
     if size < INFINITE {
-        return 15;
+        return Err(Refusal::TooFar);
     }
-    14
+    Err(Refusal::NotANumber)
 }
 
-// The refusal of a command's reading, 0 for none: whole centimetres are never refused. No float is made for it.
-pub fn refusal_of(command: u8, n: u32) -> u8
-    ensures { result ≡ refusal_in (centimetres_of (reading_of command n)) }
+// A command's reading judged: whole centimetres are never refused. No float is made for it. The command stays a byte and no enum of units:
+// docs/PROMISES.md names this function, and it judges every byte.
+#[tactic(auto, using(crate::proofs::Sizes::judges), unfolding(crate::specs::Readings::reading_of, crate::specs::Readings::centimetres_of))]
+pub fn check_reading(command: u8, n: u32) -> Result<(), Refusal>
+    ensures { refused_by result ≡ refusal_in (centimetres_of (reading_of command n)) }
 {
     match command {
-        0x4D => judged(n, LAST_METRES),
-        0x4B => judged(n, LAST_KILOMETRES),
-        _ => 0,
+        0x4D => check_size(n, LAST_METRES),
+        0x4B => check_size(n, LAST_KILOMETRES),
+        _ => Ok(()),
     }
 }
 
 // ---- whole centimetres
 
 // The whole number nearest to n / 2^j, halves to the even one.
+#[tactic(auto, using(crate::proofs::Bits::rounds))]
 fn rounded(n: u64, j: u32) -> u64
     requires { (1 ≤ j) × (j ≤ 62) × (n < 2 ^ 62) }
     ensures { result ≡ Nearest.nearest n (2 ^ j) }
@@ -91,6 +94,7 @@ fn rounded(n: u64, j: u32) -> u64
 
 // The whole centimetres of a size that is taken: the field stands above 23 digits. Below field 91 all are under half a centimetre, so the others
 // have their leading one, 2^23. The number is mantissa · 2^(field − 150); with eight times the mantissa, the shift is 2 to 62.
+#[tactic(auto, using(crate::proofs::Bits::size_small, crate::proofs::Bits::size_shifted))]
 fn whole(size: u32, scale: u64) -> u64
     requires { (size ≤ 0x4BA3D70A) × (scale ≤ 100000) }
     ensures { result ≡ Nearest.nearest (parts size * scale) (2 ^ 149) }
@@ -99,23 +103,22 @@ fn whole(size: u32, scale: u64) -> u64
     if field < 91 {
         return 0;
     }
-    let mantissa = 8388608 + (size % 8388608) as u64;
+    let mantissa = 8388608 + u64::from(size % 8388608);
     rounded(8 * mantissa * scale, 153 - field)
 }
 
 // Whole centimetres with their sign.
+#[tactic(auto, using(crate::proofs::Signs::negative_is, crate::proofs::Signs::positive_is))]
 fn with_sign(negative: bool, w: u64) -> i32
     requires { w ≤ 2147483647 }
     ensures { result ≡ Nearest.signed negative w }
 {
     let v = w as i32;
-    if negative {
-        return -v;
-    }
-    v
+    if negative { -v } else { v }
 }
 
 // The point of a float's bits.
+#[tactic(auto, using(crate::proofs::Sizes::passed), unfolding(crate::specs::Patterns::negative))]
 fn bits_point(n: u32, scale: u64) -> i32
     requires { Scale scale × (refusal_in (from_bits scale n) ≡ 0) }
     ensures { result ≡ value_in (from_bits scale n) }
@@ -124,14 +127,16 @@ fn bits_point(n: u32, scale: u64) -> i32
 }
 
 // The point of a float.
+#[tactic(auto, using(crate::proofs::Patterns::number, crate::proofs::Patterns::by_bits))]
 fn float_point(x: f32, scale: u64) -> i32
     requires { Scale scale × (refusal_in (in_centimetres scale x) ≡ 0) }
     ensures { result ≡ value_in (in_centimetres scale x) }
 {
-    bits_point(f32::to_bits(x), scale)
+    bits_point(x.to_bits(), scale)
 }
 
 // The point of a reading that is not refused.
+#[tactic(auto, unfolding(crate::specs::Readings::centimetres_of))]
 pub fn point_of(reading: Reading) -> i32
     requires { refusal_in (centimetres_of reading) ≡ 0 }
     ensures { result ≡ value_in (centimetres_of reading) }

@@ -2,126 +2,99 @@
 #![tactic(auto)]
 
 ghost use Rattle.std.specs.Prelude.{◌≡◌, ◌≤◌, eqb, length, drop, set};
-ghost use Rattle.std.proofs.Math.Option.{none};
 ghost use Rattle.cube_spec.specs.Boxes.{pick};
 ghost use Rattle.cube_spec.specs.Limits.{tape_limit};
+ghost use Rattle.cube_spec.specs.Refusals.{refused_by, reply_of};
 ghost use Rattle.tape_reading.specs.Readings.{reading_of, centimetres_of, refusal_in};
 ghost use Rattle.tape_spec.specs.Tapes.{commands};
-ghost use Rattle.tape_spec.specs.Reading.{or_empty, scanned_as, scanning};
+ghost use Rattle.tape_spec.specs.Reading.{scanning};
 ghost use Rattle.tape_spec.specs.Decoding.{counted};
 
+use cube_spec::refusals::Refusal;
 use tape_command::decode;
-use tape_reading::refusal_of;
+use tape_reading::check_reading;
 use tape_spec::types::{Command, Count, Scan};
 
-// A refusal with nothing but zeros.
-fn refused(refusal: u8) -> Scan
-    ensures { result ≡ scanned_as refusal 0 (or_empty none) }
-{
-    let lengths = [0u32; 8];
-    Scan {
-        refusal,
-        axes: 0,
-        lengths,
-        p: 0,
-        points: 0,
-        commands: 0,
-    }
-}
-
-// The lengths with d in slot i, where there is such a slot.
-fn put(lengths: [u32; 8], i: usize, d: u16) -> [u32; 8]
-    ensures { result ≡ set lengths i d }
-{
-    let mut changed = lengths;
-    if i < 8 {
-        changed[i] = d as u32;
-    }
-    changed
-}
-
 // The first refusal: the one that there was, or else the reading's.
-fn sooner(bad: u8, command: u8, bits: u32) -> u8
-    ensures { result ≡ pick (eqb bad 0) (refusal_in (centimetres_of (reading_of command bits))) bad }
+fn sooner(judged: Result<(), Refusal>, command: u8, bits: u32) -> Result<(), Refusal>
+    ensures { refused_by result
+        ≡ pick (eqb (refused_by judged) 0) (refusal_in (centimetres_of (reading_of command bits))) (refused_by judged) }
 {
-    if bad == 0 {
-        return refusal_of(command, bits);
-    }
-    bad
+    judged?;
+    check_reading(command, bits)
 }
 
-// Counts the points from a position to the end of a tape, and its commands on from those before it; remembers the first refusal of a reading.
-fn count(tape: &[u8], start: usize, before: u64) -> Count
+// Counts the points from a position to the end of a tape, and its commands on from those before it; or gives the refusal of its form, or else of the
+// first reading that is refused.
+fn count(tape: &[u8], start: usize, before: u64) -> Result<Count, Refusal>
     requires { (length tape.now ≤ tape_limit) × (start ≤ length tape.now) × (before ≤ start) }
-    ensures { result ≡ counted 0 before 0 (commands (drop start tape.now)) }
+    ensures { reply_of result ≡ counted 0 before 0 (commands (drop start tape.now)) }
 {
     let mut points: u64 = 0;
     let mut read = before;
-    let mut bad: u8 = 0;
+    let mut judged = Ok(());
     let mut at = start;
-    loop {
-        let answer = decode(tape, at);
+    while let Some(command) = decode(tape, at) {
         read += 1;
-        match answer {
+        match command {
             Command::Points(n, _, next) => {
                 points += n as u64;
                 at = next;
             }
-            Command::Float(command, bits, next) => {
+            Command::Float(byte, bits, next) => {
                 points += 1;
-                let found = sooner(bad, command, bits);
-                bad = found;
+                judged = sooner(judged, byte, bits);
                 at = next;
             }
             Command::End(next) => {
                 if next < tape.len() {
-                    return Count::Broken;
+                    return Err(Refusal::Form);
                 }
-                return Count::Whole(points, read, bad);
+                judged?;
+                return Ok(Count {
+                    points,
+                    commands: read,
+                });
             }
-            _ => return Count::Broken,
+            Command::Axis(..) | Command::Boards(..) => return Err(Refusal::Form),
         }
     }
+    Err(Refusal::Form)
 }
 
 // Judges a tape's form and readings and counts what it holds, in one pass: each command is decoded once, and counted there.
-pub fn scan(tape: &[u8]) -> Scan
-    ensures { result ≡ scanning tape.now }
+pub fn scan(tape: &[u8]) -> Result<Scan, Refusal>
+    ensures { reply_of result ≡ scanning tape.now }
 {
     if 65536 < tape.len() {
-        return refused(1);
+        return Err(Refusal::LongTape);
     }
-    let mut lengths = [0u32; 8];
+    let mut lengths = [0; 8];
     let mut axes: usize = 0;
     let mut read: u64 = 0;
     let mut at: usize = 0;
-    loop {
-        let answer = decode(tape, at);
+    while let Some(command) = decode(tape, at) {
         read += 1;
-        match answer {
+        match command {
             Command::Axis(d, next) => {
-                let changed = put(lengths, axes, d);
-                lengths = changed;
+                if axes < 8 {
+                    lengths[axes] = u32::from(d);
+                }
                 axes += 1;
                 at = next;
             }
             Command::Boards(p, next) => {
-                let Count::Whole(points, commands, bad) = count(tape, next, read) else {
-                    return refused(2);
-                };
-                if bad != 0 {
-                    return refused(bad);
-                }
-                return Scan {
-                    refusal: 0,
+                let Count { points, commands } = count(tape, next, read)?;
+                return Ok(Scan {
                     axes: axes as u32,
                     lengths,
                     p,
                     points,
                     commands,
-                };
+                });
             }
-            _ => return refused(2),
+            _ => return Err(Refusal::Form),
         }
     }
+    Err(Refusal::Form)
 }

@@ -5,6 +5,7 @@ use mathlib.Core.List.{List, [], ◌∷◌, ◌++◌}
 use lib.ListN.{replicate}
 use lib.IntN.{pos, negsuc}
 use lib.Ieee.{binary32, of_bits}
+use Rattle.cube_spec.specs.Checks.{Reply, gives, answered}
 use Rattle.tape_reading.specs.declared.types.Reading.TheVariants as Reading'
 use Rattle.tape_spec.specs.Computing.{computing}
 use Rattle.tape_spec.specs.Tapes.{axis, boards, points, end}
@@ -21,7 +22,7 @@ whole : List ℕ
 whole =
     0x41 ∷ 2 ∷ 1 ∷ 0x41 ∷ 3 ∷ 0 ∷ 0x42 ∷ 9 ∷ 0x56 ∷ 254 ∷ 255 ∷ 255 ∷ 255 ∷ 0x52 ∷ 3 ∷ 0 ∷ 5 ∷ 0 ∷ 0 ∷ 0 ∷ 0x4D ∷ 0 ∷ 0 ∷ 0 ∷ 0x3E ∷ 0x4B ∷ 0 ∷ 0 ∷ 0xC0 ∷ 0xBE ∷ 0x56 ∷ 0 ∷ 0 ∷ 0 ∷ 128 ∷ 0x45 ∷ []
 
-scans : scanning whole ≡ taken 2 (258 ∷ 3 ∷ 0 ∷ 0 ∷ 0 ∷ 0 ∷ 0 ∷ 0 ∷ []) 9 7 9
+scans : scanning whole ≡ gives (taken 2 (258 ∷ 3 ∷ 0 ∷ 0 ∷ 0 ∷ 0 ∷ 0 ∷ 0 ∷ []) 9 7 9)
 unfolding computing whole
 scans = refl
 
@@ -55,8 +56,8 @@ unfolding computing whole
 reads = (refl, refl, refl, refl)
 
 -- a tape without a 41 or without points keeps the form; more than eight axes are counted, and the first eight told
-kept : (scanning (0x42 ∷ 255 ∷ 0x45 ∷ []) ≡ taken 0 (replicate 8 0) 255 0 2)
-    × (scanning (0x41 ∷ 1 ∷ 0 ∷ 0x41 ∷ 2 ∷ 0 ∷ 0x41 ∷ 3 ∷ 0 ∷ 0x41 ∷ 4 ∷ 0 ∷ 0x41 ∷ 5 ∷ 0 ∷ 0x41 ∷ 6 ∷ 0 ∷ 0x41 ∷ 7 ∷ 0 ∷ 0x41 ∷ 8 ∷ 0 ∷ 0x41 ∷ 9 ∷ 0 ∷ 0x42 ∷ 0 ∷ 0x45 ∷ []) ≡ taken 9 (1 ∷ 2 ∷ 3 ∷ 4 ∷ 5 ∷ 6 ∷ 7 ∷ 8 ∷ []) 0 0 11)
+kept : (scanning (0x42 ∷ 255 ∷ 0x45 ∷ []) ≡ gives (taken 0 (replicate 8 0) 255 0 2))
+    × (scanning (0x41 ∷ 1 ∷ 0 ∷ 0x41 ∷ 2 ∷ 0 ∷ 0x41 ∷ 3 ∷ 0 ∷ 0x41 ∷ 4 ∷ 0 ∷ 0x41 ∷ 5 ∷ 0 ∷ 0x41 ∷ 6 ∷ 0 ∷ 0x41 ∷ 7 ∷ 0 ∷ 0x41 ∷ 8 ∷ 0 ∷ 0x41 ∷ 9 ∷ 0 ∷ 0x42 ∷ 0 ∷ 0x45 ∷ []) ≡ gives (taken 9 (1 ∷ 2 ∷ 3 ∷ 4 ∷ 5 ∷ 6 ∷ 7 ∷ 8 ∷ []) 0 0 11))
 unfolding computing
 kept = (refl, refl)
 
@@ -91,14 +92,14 @@ unfolding computing refusals
 lengths_of_tapes = refl
 
 -- the scans that compare lists
-unfoldable scanned_all : List Scanned → List Scan
+unfoldable scanned_all : List Scanned → List (Reply Scan)
 scanned_all [] = []
 scanned_all (s ∷ r) = scanning s.tape ∷ scanned_all r
 
-unfoldable listed_scans : List Scanned → List Scan
+unfoldable listed_scans : List Scanned → List (Reply Scan)
 listed_scans [] = []
 listed_scans (s ∷ r) =
-    record { refusal = s.refusal; axes = s.axes; lengths = s.lengths; p = s.p; points = s.points; commands = s.commands } ∷ listed_scans r
+    answered s.refusal (record { axes = s.axes; lengths = s.lengths; p = s.p; points = s.points; commands = s.commands }) ∷ listed_scans r
 
 scans_listed : scanned_all Listed.scans ≡ listed_scans Listed.scans
 unfolding computing Listed.scans scanned_all listed_scans

@@ -167,6 +167,12 @@ module _ (l : List ℕ) (at : ℕ) (h : at < length l) where
     pub single_told : 5 ≤ length l - at → placed (points 1 (reading_of c (little (take 4 (drop (at + 1) l))))) (at + 5) ≡ decoding l at
     single_told q = command_told 4 (λ b. points 1 (reading_of c b)) (at_single c e t) 5 refl q
 
+  pub point_cut : get_or l at 0 ≡ 0x56 → length l - at < 5 → nothing ≡ decoding l at
+  point_cut e q = single_cut 0x56 e (unfold single in refl) q
+
+  pub point_told : get_or l at 0 ≡ 0x56 → 5 ≤ length l - at → placed (points 1 (reading_of 0x56 (little (take 4 (drop (at + 1) l))))) (at + 5) ≡ decoding l at
+  point_told e q = single_told 0x56 e (unfold single in refl) q
+
   module _ (e : get_or l at 0 ≡ 0x52) where
     abbrev reads : ℕ → List ℕ → First
     reads n s = operand 4 s (λ b t. repeated n (reading_of 0x52 b) t)
@@ -205,11 +211,7 @@ pub past_told : (l : List ℕ) (at : ℕ) → length l ≤ at → nothing ≡ de
 unfolding decoding told first_of
 past_told l at h = rw (drop_of_length-le l h)
 
--- the bytes that begin a single reading: 56, and the odd ones from 4B to 4D
-pub is_56 : (c : ℕ) → c ≡ 0x56 → single c ≡ true
-unfolding single
-is_56 c e = rw e
-
+-- the bytes that begin a float: the odd ones from 4B to 4D
 pub is_float : (c : ℕ) → Floating c → single c ≡ true
 unfolding single
 is_float c (inl e) = rw e
@@ -224,3 +226,8 @@ odd_float c a b h = by (eqb c 0x4B) (λ t. inr (eqb-true c 0x4B t)) (λ t. inl (
 pub not_single : (c : ℕ) → (c ≡ 0x56 → ⊥) → (c ≡ 0x4D → ⊥) → (c ≡ 0x4B → ⊥) → single c ≡ false
 unfolding single
 not_single c x y z = rw (ne_eqb c 0x56 x, ne_eqb c 0x4D y, ne_eqb c 0x4B z)
+
+-- what tells a 52, and what tells the commands that are neither a 56 nor a 52
+pub ruleset repeats = (repeated_cut, repeated_never, repeated_told)
+
+pub ruleset others = (other_told, not_single, odd_float, end_told)

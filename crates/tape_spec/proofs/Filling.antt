@@ -1,7 +1,6 @@
 -- Laws of the stores: a slice with the points stored so far, and what is left of the tape.
 use Prim.Native.Nat.{ℕ, zero, suc, ◌+◌, ◌-◌, ◌≤◌, ◌<◌}
 use mathlib.Core.Path.{◌≡◌, refl, sym, ap, ◌∙◌}
-use mathlib.Core.Logic.{⊎_elim}
 use mathlib.Core.Option.{Option, none, some}
 use mathlib.Core.List.{List, [], ◌∷◌, ◌++◌}
 use native.Mathlib.Omega.{arith}
@@ -12,8 +11,6 @@ use lib.Dec.{eqb}
 use lib.ListN.{length, drop, set, replicate, length-append, length-replicate}
 use lib.Seq.{sets, sets-eq, length-sets}
 use lib.IntN.{ℤ}
-use types.Run.{OneOf}
-use denote.Enum.Declared.{tag_of}
 use Rattle.cube_spec.specs.Boxes.{pick}
 use Rattle.cube_spec.specs.Checks.{first}
 use Rattle.cube_spec.proofs.Sums.{by}
@@ -22,12 +19,11 @@ use Rattle.tape_reading.specs.declared.types.Reading.{Reading}
 use Rattle.tape_reading.specs.declared.types.Reading.TheVariants as Reading'
 use Rattle.tape_reading.specs.Readings.{reading_of, centimetres_of, refusal_in, value_in}
 use Rattle.tape_reading.proofs.Readings.{Kind, refusal_kind}
-use Rattle.tape_spec.specs.declared.types.Command.TheVariants.{Axis, Boards, Points, Float, End, Bad}
+use Rattle.tape_spec.specs.declared.types.Command.TheVariants.{Axis, Boards, Points, Float, End}
 use Rattle.tape_spec.specs.declared.types.Command as answers
 use Rattle.tape_spec.specs.Tapes.{Command, axis, boards, points, end, prepend, commands, Entry, Form, with_entry, with_length, with_boards, entries_of, form_of, form_in, form, points_of, as_campaign, campaign}
 use Rattle.tape_spec.specs.Reading.{too_long, is_none, or_empty, entries_in, entry_checks, scan_checks, scan_refusal, filled_or}
-use Rattle.tape_spec.specs.Decoding.{placed, meant, decoding, entries_from, left, Passed, points_in}
-use Rattle.tape_spec.specs.contracts.types.Command as told
+use Rattle.tape_spec.specs.Decoding.{placed, nothing, meant_by, decoding, entries_from, left, Passed, points_in}
 use Rattle.tape_spec.proofs.Decoding.{tells, bad_left}
 use Rattle.tape_spec.proofs.Scanning.{first_kind}
 
@@ -89,27 +85,34 @@ module _ (tape : List ℕ) (at : ℕ) where
       let q : left (drop at tape) ≡ with_entry n v (left (drop m tape)) = ap entries_from (tells tape at e).is ∙ left_prepended n v (commands (drop m tape)) in
       rw q (turn n v (left (drop m tape)) (rw q at h))
 
-  pub nothing_left : (c : answers.Command) → OneOf (0 ∷ 1 ∷ 4 ∷ 5 ∷ []) (tag_of told.the_type c) → meant c ≡ decoding tape at → points_in (left (drop at tape)) ≡ []
+  pub nothing_left : (c : answers.Command)
+      → ((n : ℕ) (v : ℤ) (next : ℕ) → c ≡ Points n v next → ⊥)
+      → ((f b next : ℕ) → c ≡ Float f b next → ⊥)
+      → meant_by c ≡ decoding tape at
+      → points_in (left (drop at tape)) ≡ []
   unfolding entries_of points_of
-  nothing_left (Axis d n) t e = rw (tells tape at e).is (go (commands (drop n tape)))
+  nothing_left (Axis d next) x y e = rw (tells tape at e).is (go (commands (drop next tape)))
     where
       go : (o : Option (List Command)) → points_in (entries_from (prepend (axis d) o)) ≡ []
       go none = refl
       go (some cs) = refl
-  nothing_left (Boards p n) t e = rw (tells tape at e).is (go (commands (drop n tape)))
+  nothing_left (Boards p next) x y e = rw (tells tape at e).is (go (commands (drop next tape)))
     where
       go : (o : Option (List Command)) → points_in (entries_from (prepend (boards p) o)) ≡ []
       go none = refl
       go (some cs) = refl
-  nothing_left (Points n v m) t e = absurd (⊎_elim (λ w. omega arith) (⊎_elim (λ w. omega arith) (⊎_elim (λ w. omega arith) (λ w. omega arith))) t)
-  nothing_left (Float c b m) t e = absurd (⊎_elim (λ w. omega arith) (⊎_elim (λ w. omega arith) (⊎_elim (λ w. omega arith) (λ w. omega arith))) t)
-  nothing_left (End n) t e = rw (tells tape at e).is (go (commands (drop n tape)))
+  nothing_left (Points n v next) x y e = absurd (x n v next refl)
+  nothing_left (Float f b next) x y e = absurd (y f b next refl)
+  nothing_left (End next) x y e = rw (tells tape at e).is (go (commands (drop next tape)))
     where
       go : (o : Option (List Command)) → points_in (entries_from (prepend end o)) ≡ []
       go none = refl
       go (some []) = refl
       go (some (c ∷ cs)) = refl
-  nothing_left Bad t e = bad_left tape at (λ o. points_in (entries_from o) ≡ []) e refl refl
+
+  pub none_left : nothing ≡ decoding tape at → points_in (left (drop at tape)) ≡ []
+  unfolding entries_of points_of
+  none_left e = bad_left tape at (λ o. points_in (entries_from o) ≡ []) e refl refl
 
 -- a turn that stores n points
 module _ (n : ℕ) (v : Reading) (o r : Option (List Entry)) (done : ℕ) (p : Turn n v o r) where
@@ -185,15 +188,23 @@ module _ (tape : List ℕ) where
         go (some cs) h = h
 
     -- no other command stands before the 42
-    pub none_ahead : (c : answers.Command) → OneOf (2 ∷ 3 ∷ 4 ∷ 5 ∷ []) (tag_of told.the_type c) → meant c ≡ decoding tape at → Passed (ahead (drop at tape)) → ⊥
+    pub none_ahead : (c : answers.Command)
+        → ((d next : ℕ) → c ≡ Axis d next → ⊥)
+        → ((p next : ℕ) → c ≡ Boards p next → ⊥)
+        → meant_by c ≡ decoding tape at
+        → Passed (ahead (drop at tape))
+        → ⊥
     unfolding form_of
-    none_ahead (Axis d n) t e h = ⊎_elim (λ w. omega arith) (⊎_elim (λ w. omega arith) (⊎_elim (λ w. omega arith) (λ w. omega arith))) t
-    none_ahead (Boards p n) t e h = ⊎_elim (λ w. omega arith) (⊎_elim (λ w. omega arith) (⊎_elim (λ w. omega arith) (λ w. omega arith))) t
-    none_ahead (Points n v m) t e h = no_reading n (Reading'.Centimetres v) m e h
-    none_ahead (Float c b m) t e h = no_reading 1 (reading_of c b) m e h
-    none_ahead (End n) t e h = go (commands (drop n tape)) (rw (tells tape at e).is at h)
+    none_ahead (Axis d next) x y e h = x d next refl
+    none_ahead (Boards p next) x y e h = y p next refl
+    none_ahead (Points n v next) x y e h = no_reading n (Reading'.Centimetres v) next e h
+    none_ahead (Float c b next) x y e h = no_reading 1 (reading_of c b) next e h
+    none_ahead (End next) x y e h = go (commands (drop next tape)) (rw (tells tape at e).is at h)
       where
         go : (o : Option (List Command)) → Passed (held (form_in (prepend end o))) → ⊥
         go none h = h
         go (some cs) h = h
-    none_ahead Bad t e h = bad_left tape at (λ o. Passed (held (form_in o)) → ⊥) e (λ h. h) (λ h. h) h
+
+    pub no_end_ahead : nothing ≡ decoding tape at → Passed (ahead (drop at tape)) → ⊥
+    unfolding form_of
+    no_end_ahead e h = bad_left tape at (λ o. Passed (held (form_in o)) → ⊥) e (λ h. h) (λ h. h) h

@@ -1,27 +1,18 @@
 -- Laws of the reader's refusals: the scan's come first, then the slice's.
 use Prim.Native.Nat.{ℕ, zero, suc, ◌≤◌, ◌<◌}
-use mathlib.Core.Path.{◌≡◌, refl, sym, ◌∙◌}
+use mathlib.Core.Path.{◌≡◌, refl, sym, ap, ◌∙◌}
 use mathlib.Core.Bool.{true}
 use mathlib.Core.List.{List, [], ◌∷◌, ◌++◌}
 use native.Mathlib.Omega.{arith}
 use borrow.Author.Tests.{lt-ltb, le-ltb, ltb-false}
 use lib.ListN.{length}
 use lib.IntN.{ℤ}
-use Rattle.cube_spec.specs.Checks.{Check, check, first}
+use Rattle.cube_spec.specs.Checks.{Check, check, first, gives, refuses}
+use Rattle.cube_spec.proofs.Answered.{gives_is, refuses_is, refuses_some}
 use Rattle.cube_spec.proofs.Dues.{Numbered, numbered_both, first_due, first_passed, none_first, none_both, lacks}
 use Rattle.tape_spec.specs.declared.types.Scan.{Scan}
-use Rattle.tape_spec.specs.Tapes.{commands, Entry, form, Campaign, campaign}
-use Rattle.tape_spec.specs.Reading.{or_empty, entries_in, entry_checks, scan_checks, scan_refusal, command_count, scanned_as, scanning, short_slice, reading_checks, reading_refusal, filled_or, reading}
-
-refusal_is : (n m : ℕ) (f : Campaign) → (scanned_as n m f).refusal ≡ n
-unfolding scanned_as
-refusal_is zero m f = refl
-refusal_is (suc n) m f = refl
-
-points_are : (n m : ℕ) (f : Campaign) → n ≡ 0 → (scanned_as n m f).points ≡ length f.points
-unfolding scanned_as
-points_are zero m f e = refl
-points_are (suc n) m f e = absurd (omega arith)
+use Rattle.tape_spec.specs.Tapes.{Entry, form, campaign}
+use Rattle.tape_spec.specs.Reading.{or_empty, entries_in, entry_checks, scan_checks, scan_refusal, scan_in, scanned_as, scanning, short_slice, reading_checks, reading_refusal, filled_or, reading}
 
 pub left_alone : (n : ℕ) (p s : List ℤ) → (n ≡ 0 → ⊥) → filled_or n p s ≡ s
 unfolding filled_or
@@ -70,36 +61,57 @@ module _ (tape : List ℕ) (s : List ℤ) (h : reading_refusal tape (length s) �
       let n = none_of_scan tape (check 11 (short_slice (or_empty (campaign tape)) (length s)) ∷ []) (unfold reading_refusal reading_checks in h) in
       (n.0, ltb-false (length s) _ (none_first _ [] (omega arith) n.1).0)
 
-module _ (tape : List ℕ) (f : Scan) (e : f ≡ scanning tape) where
-  pub refusal : f.refusal ≡ scan_refusal tape
-  unfolding scanning
-  refusal = rw e (refusal_is (scan_refusal tape) (command_count (commands tape)) (or_empty (campaign tape)))
+-- where the scan refuses, by a number
+module _ (tape : List ℕ) (n : ℕ) (e : refuses n ≡ scanning tape) where
+  abbrev told : Scan
+  told = scan_in tape
 
-  -- where the scan refuses, no later check counts
-  pub scan_first : (f.refusal ≡ 0 → ⊥) → (r : List Check) → f.refusal ≡ first (scan_checks tape ++ r)
+  pub refusal : n ≡ scan_refusal tape
+  unfolding scanning scanned_as
+  refusal = refuses_is (scan_refusal tape) n told e
+
+  pub some : n ≡ 0 → ⊥
+  unfolding scanning scanned_as
+  some = refuses_some (scan_refusal tape) n told e
+
+  -- no later check counts
+  pub scan_first : (r : List Check) → n ≡ first (scan_checks tape ++ r)
   unfolding scan_refusal
-  scan_first h r = refusal ∙ sym (first_due (scan_checks tape) r (λ z. h (refusal ∙ z)))
+  scan_first r = refusal ∙ sym (first_due (scan_checks tape) r (λ z. some (refusal ∙ z)))
 
-  pub refuses : (f.refusal ≡ 0 → ⊥) → (s : List ℤ) → (f.refusal ≡ reading_refusal tape (length s)) × (s ≡ reading tape s)
+  pub refused : (s : List ℤ) → (n ≡ reading_refusal tape (length s)) × (s ≡ reading tape s)
   unfolding reading_refusal reading_checks reading
-  refuses h s =
-      let q : f.refusal ≡ reading_refusal tape (length s) = scan_first h _ in
-      (q, sym (left_alone (reading_refusal tape (length s)) _ s (λ z. h (q ∙ z))))
+  refused s =
+      let q : n ≡ reading_refusal tape (length s) = scan_first _ in
+      (q, sym (left_alone (reading_refusal tape (length s)) _ s (λ z. some (q ∙ z))))
 
-  module _ (h : f.refusal ≡ 0) where
-    -- where the scan does not refuse, the later checks decide
-    pub scan_passed : (r : List Check) → first (scan_checks tape ++ r) ≡ first r
-    unfolding scan_refusal
-    scan_passed r = after_scan tape r (sym refusal ∙ h)
+-- where it gives what the tape holds
+module _ (tape : List ℕ) (f : Scan) (e : gives f ≡ scanning tape) where
+  both : (scan_refusal tape ≡ 0) × (f ≡ scan_in tape)
+  unfolding scanning scanned_as
+  both = gives_is (scan_refusal tape) (scan_in tape) f e
 
-    counts : f.points ≡ length (or_empty (campaign tape)).points
-    unfolding scanning
-    counts = rw e (points_are (scan_refusal tape) (command_count (commands tape)) (or_empty (campaign tape)) (sym refusal ∙ h))
+  pub none_due : scan_refusal tape ≡ 0
+  none_due = both.0
 
-    pub fits : (n : ℕ) → f.points ≤ n → reading_refusal tape n ≡ 0
-    unfolding reading_refusal reading_checks first short_slice
-    fits n l = rw (scan_passed _, le-ltb n _ (rw counts at l))
+  pub scan_is : f ≡ scan_in tape
+  scan_is = both.1
 
-    pub short : (s : List ℤ) → length s < f.points → (11 ≡ reading_refusal tape (length s)) × (s ≡ reading tape s)
-    unfolding reading reading_refusal reading_checks first short_slice filled_or
-    short s l = rw (scan_passed _, lt-ltb (length s) _ (rw counts at l)) (refl, refl)
+  -- the later checks decide
+  pub scan_passed : (r : List Check) → first (scan_checks tape ++ r) ≡ first r
+  unfolding scan_refusal
+  scan_passed r = after_scan tape r none_due
+
+  counts : f.points ≡ length (or_empty (campaign tape)).points
+  counts = ap (λ f. f.points) scan_is
+
+  pub fits : (n : ℕ) → f.points ≤ n → reading_refusal tape n ≡ 0
+  unfolding reading_refusal reading_checks first short_slice
+  fits n l = rw (scan_passed _, le-ltb n _ (rw counts at l))
+
+  pub short : (s : List ℤ) → length s < f.points → (11 ≡ reading_refusal tape (length s)) × (s ≡ reading tape s)
+  unfolding reading reading_refusal reading_checks first short_slice filled_or
+  short s l = rw (scan_passed _, lt-ltb (length s) _ (rw counts at l)) (refl, refl)
+
+-- what a scan says of reading into a slice
+pub ruleset reads = (refused, fits, short)

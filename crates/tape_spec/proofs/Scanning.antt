@@ -1,7 +1,7 @@
 -- Laws of the scan's loops: what is left of a tape tells the whole.
 use Prim.Native.Nat.{ℕ, zero, suc, ◌+◌, ◌≤◌, ◌<◌}
 use mathlib.Core.Path.{◌≡◌, refl, sym, ap, ◌∙◌}
-use mathlib.Core.Logic.{inl, inr, ⊎_elim}
+use mathlib.Core.Logic.{inl, inr}
 use mathlib.Core.Option.{Option, none, some}
 use mathlib.Core.List.{List, [], ◌∷◌, ◌++◌}
 use native.Mathlib.Omega.{arith}
@@ -12,11 +12,10 @@ use lib.Dec.{eqb}
 use lib.IntN.{ℤ}
 use lib.ListN.{length, take, drop, set, replicate, length-append, length-replicate, length-drop, drop_of_length-le}
 use lib.Seq.{sets, set_out}
-use types.Run.{OneOf}
-use denote.Enum.Declared.{tag_of}
 use Rattle.cube_spec.specs.Boxes.{pick}
-use Rattle.cube_spec.specs.Checks.{first}
+use Rattle.cube_spec.specs.Checks.{first, Reply, gives, refuses, answered}
 use Rattle.cube_spec.specs.Limits.{tape_limit, axis_limit, padded}
+use Rattle.cube_spec.proofs.Answered.{refused}
 use Rattle.cube_spec.proofs.Sums.{by}
 use Rattle.cube_spec.proofs.Naturals.{impossible}
 use Rattle.tape_reading.specs.declared.types.Reading.{Reading}
@@ -24,14 +23,13 @@ use Rattle.tape_reading.specs.declared.types.Reading.TheVariants as Reading'
 use Rattle.tape_reading.specs.Readings.{reading_of, centimetres_of, refusal_in, value_in}
 use Rattle.tape_reading.proofs.Readings.{Kind, refusal_kind}
 use Rattle.tape_spec.specs.declared.types.Command.{Command}
-use Rattle.tape_spec.specs.declared.types.Command.TheVariants.{Axis, Boards, Points, Float, End, Bad}
-use Rattle.tape_spec.specs.declared.types.Count.TheVariants.{Whole, Broken}
+use Rattle.tape_spec.specs.declared.types.Command.TheVariants.{Axis, Boards, Points, Float, End}
+use Rattle.tape_spec.specs.declared.types.Count.{Count}
 use Rattle.tape_spec.specs.declared.types.Scan.{Scan}
 use Rattle.tape_spec.specs.Tapes as Tapes
 use Rattle.tape_spec.specs.Tapes.{axis, boards, points, end, prepend, commands, Entry, Form, with_entry, with_length, with_boards, entries_of, form_of, form_in, form, points_of, as_campaign, campaign}
 use Rattle.tape_spec.specs.Reading.{too_long, is_none, or_empty, entries_in, entry_checks, scan_checks, scan_refusal, command_count, scanned_as, scanning}
-use Rattle.tape_spec.specs.Decoding.{placed, meant, decoding, counted_as, counted}
-use Rattle.tape_spec.specs.contracts.types.Command as told
+use Rattle.tape_spec.specs.Decoding.{placed, nothing, meant_by, decoding, counted_as, counted}
 use Rattle.tape_spec.proofs.Commands.{commands_none}
 use Rattle.tape_spec.proofs.Decoding.{tells, some_left, bad_left}
 
@@ -46,6 +44,10 @@ first_kind r x (inr (inr e)) = rw e
 -- the first refusal of a reading and of those after it
 sooner : (b r x : ℕ) → Kind r → pick (eqb b 0) (pick (eqb r 14) 14 (pick (eqb r 15) 15 x)) b ≡ pick (eqb (pick (eqb b 0) r b) 0) x (pick (eqb b 0) r b)
 sooner b r x k = by (eqb b 0) (λ t. rw t (first_kind r x k)) (λ t. rw (t, t))
+
+-- what is counted
+abbrev pub count : ℕ → ℕ → Count
+count k m = record { points = k; commands = m }
 
 -- a command more before those that are left
 one_more : {A : Type 0} (m : ℕ) (l : List A) → m + suc (length l) ≡ m + 1 + length l
@@ -64,7 +66,7 @@ module _ (tape : List ℕ) (at k m b : ℕ) where
           let a = length-append (replicate n x) (points_of es) in
           let r = length-replicate n x in
           let p : k + length (replicate n x ++ points_of es) ≡ k + n + length (points_of es) = omega arith in
-          rw p (ap (Whole (k + n + length (points_of es)) c) (sooner b (refusal_in (centimetres_of v)) (first (entry_checks es)) (refusal_kind v)))
+          rw p (ap (λ r. answered r (count (k + n + length (points_of es)) c)) (sooner b (refusal_in (centimetres_of v)) (first (entry_checks es)) (refusal_kind v)))
 
       go : (o : Option (List Tapes.Command)) → counted k m b (prepend (points n v) o) ≡ counted (k + n) (m + 1) (pick (eqb b 0) (refusal_in (centimetres_of v)) b) o
       go none = refl
@@ -78,62 +80,55 @@ module _ (tape : List ℕ) (at k m b : ℕ) where
       let q : pick (eqb b 0) 0 b ≡ b = by (eqb b 0) (λ t. rw t (sym (eqb-true b 0 t))) (λ t. rw t) in
       points_more n (Reading'.Centimetres v) next e ∙ ap (λ r. counted (k + n) (m + 1) r (commands (drop next tape))) q
 
-  pub at_end : (next : ℕ) → placed end next ≡ decoding tape at → length tape ≤ next → Whole k (m + 1) b ≡ counted k m b (commands (drop at tape))
+  pub at_end : (next : ℕ) → placed end next ≡ decoding tape at → length tape ≤ next → answered b (count k (m + 1)) ≡ counted k m b (commands (drop at tape))
   unfolding entries_of entry_checks first points_of
-  at_end next e h = rw ((tells tape at e).is, drop_of_length-le tape h, commands_none, add-zero k) (ap (Whole k (m + 1)) (by (eqb b 0) (λ t. rw t (eqb-true b 0 t)) (λ t. rw t)))
+  at_end next e h = rw ((tells tape at e).is, drop_of_length-le tape h, commands_none, add-zero k) (ap (λ r. answered r (count k (m + 1))) (by (eqb b 0) (λ t. rw t (eqb-true b 0 t)) (λ t. rw t)))
 
-  pub before_end : (next : ℕ) → placed end next ≡ decoding tape at → next < length tape → Broken ≡ counted k m b (commands (drop at tape))
+  pub at_end_refused : (next n : ℕ) → placed end next ≡ decoding tape at → length tape ≤ next → 0 < n → n ≡ b → refuses n ≡ counted k m b (commands (drop at tape))
+  at_end_refused next n e h s q = refused n (count k (m + 1)) s ∙ ap (λ n. answered n (count k (m + 1))) q ∙ at_end next e h
+
+  pub before_end : (next : ℕ) → placed end next ≡ decoding tape at → next < length tape → refuses 2 ≡ counted k m b (commands (drop at tape))
   unfolding entries_of
   before_end next e h =
       let d = length-drop next tape in
-      rw (tells tape at e).is (some_left (drop next tape) (λ o. Broken ≡ counted k m b (prepend end o)) (omega arith) refl (λ c cs. refl))
+      rw (tells tape at e).is (some_left (drop next tape) (λ o. refuses 2 ≡ counted k m b (prepend end o)) (omega arith) refl (λ c cs. refl))
 
-  pub no_point : (c : Command) → OneOf (0 ∷ 1 ∷ 5 ∷ []) (tag_of told.the_type c) → meant c ≡ decoding tape at → Broken ≡ counted k m b (commands (drop at tape))
+  -- a 41 or a 42 from the 42 on
+  pub axis_late : (d next : ℕ) → placed (axis d) next ≡ decoding tape at → refuses 2 ≡ counted k m b (commands (drop at tape))
   unfolding entries_of
-  no_point (Axis d n) t e = rw (tells tape at e).is (go (commands (drop n tape)))
+  axis_late d next e = rw (tells tape at e).is (go (commands (drop next tape)))
     where
-      go : (o : Option (List Tapes.Command)) → Broken ≡ counted k m b (prepend (axis d) o)
+      go : (o : Option (List Tapes.Command)) → refuses 2 ≡ counted k m b (prepend (axis d) o)
       go none = refl
       go (some cs) = refl
-  no_point (Boards p n) t e = rw (tells tape at e).is (go (commands (drop n tape)))
+
+  pub boards_late : (p next : ℕ) → placed (boards p) next ≡ decoding tape at → refuses 2 ≡ counted k m b (commands (drop at tape))
+  unfolding entries_of
+  boards_late p next e = rw (tells tape at e).is (go (commands (drop next tape)))
     where
-      go : (o : Option (List Tapes.Command)) → Broken ≡ counted k m b (prepend (boards p) o)
+      go : (o : Option (List Tapes.Command)) → refuses 2 ≡ counted k m b (prepend (boards p) o)
       go none = refl
       go (some cs) = refl
-  no_point (Points n v next) t e = absurd (⊎_elim (λ w. omega arith) (⊎_elim (λ w. omega arith) (λ w. omega arith)) t)
-  no_point (Float f v next) t e = absurd (⊎_elim (λ w. omega arith) (⊎_elim (λ w. omega arith) (λ w. omega arith)) t)
-  no_point (End n) t e = absurd (⊎_elim (λ w. omega arith) (⊎_elim (λ w. omega arith) (λ w. omega arith)) t)
-  no_point Bad t e = bad_left tape at (λ o. Broken ≡ counted k m b o) e refl refl
+
+  pub no_command : nothing ≡ decoding tape at → refuses 2 ≡ counted k m b (commands (drop at tape))
+  unfolding entries_of
+  no_command e = bad_left tape at (λ o. refuses 2 ≡ counted k m b o) e refl refl
 
 -- ---- scanning
 
--- a refusal with nothing but zeros
-abbrev pub refused_scan : ℕ → Scan
-refused_scan n = record { refusal = n; axes = 0; lengths = 0 ∷ 0 ∷ 0 ∷ 0 ∷ 0 ∷ 0 ∷ 0 ∷ 0 ∷ []; p = 0; points = 0; commands = 0 }
-
-pub refused_as : (n : ℕ) → refused_scan n ≡ scanned_as n 0 (or_empty none)
-unfolding scanned_as padded points_of
-refused_as zero = refl
-refused_as (suc n) = refl
-
--- one with what a tape holds
+-- what a tape holds
 abbrev pub taken : ℕ → List ℕ → ℕ → ℕ → ℕ → Scan
-taken k l p n m = record { refusal = 0; axes = k; lengths = l; p = p; points = n; commands = m }
+taken k l p n m = record { axes = k; lengths = l; p = p; points = n; commands = m }
 
--- the scan of a tape that is not too long and has a form, by the first refusal of its readings
-abbrev judged_by : ℕ → Scan → Scan
-judged_by zero s = s
-judged_by (suc n) s = scanned_as (suc n) 0 (or_empty none)
-
--- k axes and their lengths l being known already, and m commands being there in all
-abbrev judged_as : ℕ → List ℕ → ℕ → Option Form → Scan
-judged_as k l m none = scanned_as 2 0 (or_empty none)
+-- The scan of a tape that is not too long and has a form, by the first refusal of its readings: k axes and their lengths l being known already, and m commands being there in all.
+abbrev judged_as : ℕ → List ℕ → ℕ → Option Form → Reply Scan
+judged_as k l m none = refuses 2
 judged_as k l m (some f) =
-    judged_by (first (entry_checks f.entries)) (taken (k + length f.lengths) (sets l k f.lengths) f.p (length (points_of f.entries)) m)
+    answered (first (entry_checks f.entries)) (taken (k + length f.lengths) (sets l k f.lengths) f.p (length (points_of f.entries)) m)
 
 -- m commands having been read, and those that are left being these
-abbrev pub judged : ℕ → List ℕ → ℕ → Option (List Tapes.Command) → Scan
-judged k l m none = scanned_as 2 0 (or_empty none)
+abbrev pub judged : ℕ → List ℕ → ℕ → Option (List Tapes.Command) → Reply Scan
+judged k l m none = refuses 2
 judged k l m (some cs) = judged_as k l (m + length cs) (form_of cs)
 
 -- stores past the last slot change nothing
@@ -156,15 +151,15 @@ slots zero k (d ∷ ds) h = sets_out [] 1 ds (omega arith)
 slots (suc n) k (d ∷ ds) h = sets_suc d (replicate n 0) 0 ds ∙ ap (λ (l : List ℕ). d ∷ l) (slots n k ds (omega arith))
 
 module _ (tape : List ℕ) where
-  pub too_long_lem : tape_limit < length tape → scanned_as 1 0 (or_empty none) ≡ scanning tape
-  unfolding scanning scanned_as scan_refusal scan_checks too_long first
+  pub too_long_lem : tape_limit < length tape → refuses 1 ≡ scanning tape
+  unfolding answered scanning scanned_as scan_refusal scan_checks too_long first
   too_long_lem h = rw (lt-ltb tape_limit (length tape) h)
 
   pub no_axis_yet : length tape ≤ tape_limit → scanning tape ≡ judged 0 (replicate axis_limit 0) 0 (commands tape)
-  unfolding scanning scanned_as scan_refusal scan_checks too_long first form campaign
+  unfolding answered scanning scanned_as scan_refusal scan_checks too_long first form campaign
   no_axis_yet h = rw (le-ltb tape_limit (length tape) h) (go (commands tape))
     where
-      by_refusal : (r m : ℕ) (f : Form) → scanned_as r m (or_empty (as_campaign (some f))) ≡ judged_by r (taken (0 + length f.lengths) (sets (replicate axis_limit 0) 0 f.lengths) f.p (length (points_of f.entries)) m)
+      by_refusal : (r m : ℕ) (f : Form) → scanned_as r m (or_empty (as_campaign (some f))) ≡ answered r (taken (0 + length f.lengths) (sets (replicate axis_limit 0) 0 f.lengths) f.p (length (points_of f.entries)) m)
       by_refusal zero m f = unfold padded in rw (zero-add (length f.lengths), slots axis_limit axis_limit f.lengths (omega arith))
       by_refusal (suc r) m f = refl
 
@@ -191,74 +186,69 @@ module _ (tape : List ℕ) where
 
     module _ (p next : ℕ) (e : placed (boards p) next ≡ decoding tape at) where
       -- the points are counted, and no reading is refused
-      pub boards_whole : (n c : ℕ) → Whole n c 0 ≡ counted 0 (m + 1) 0 (commands (drop next tape))
-          → taken k l p n c ≡ judged k l m (commands (drop at tape))
-      unfolding form_of
+      pub boards_whole : (n c : ℕ) → gives (count n c) ≡ counted 0 (m + 1) 0 (commands (drop next tape))
+          → gives (taken k l p n c) ≡ judged k l m (commands (drop at tape))
+      unfolding form_of answered
       boards_whole n c = rw (tells tape at e).is (go (commands (drop next tape)))
         where
-          by_refusal : (r d : ℕ) (es : List Entry) → Whole n c 0 ≡ Whole (0 + length (points_of es)) d r
-              → taken k l p n c ≡ judged_by r (taken (k + 0) l p (length (points_of es)) d)
+          by_refusal : (r d : ℕ) (es : List Entry) → gives (count n c) ≡ answered r (count (0 + length (points_of es)) d)
+              → gives (taken k l p n c) ≡ answered r (taken (k + 0) l p (length (points_of es)) d)
           by_refusal zero d es q =
-              let x : n ≡ 0 + length (points_of es) = cc in
-              let y : c ≡ d = cc in
+              let t : count n c ≡ count (0 + length (points_of es)) d = cc in
+              let x : n ≡ 0 + length (points_of es) = ap (λ t. t.points) t in
+              let y : c ≡ d = ap (λ t. t.commands) t in
               rw (x, y, zero-add (length (points_of es)), add-zero k)
-          by_refusal (suc r) d es q = let z : 0 ≡ suc r = cc in absurd (omega arith)
+          by_refusal (suc r) d es q = impossible (cc)
 
-          by_form : (d : ℕ) (o : Option (List Entry)) → Whole n c 0 ≡ counted_as 0 d 0 o → taken k l p n c ≡ judged_as k l d (with_boards p o)
+          by_form : (d : ℕ) (o : Option (List Entry)) → gives (count n c) ≡ counted_as 0 d 0 o → gives (taken k l p n c) ≡ judged_as k l d (with_boards p o)
           by_form d none q = impossible (cc)
           by_form d (some es) q = by_refusal (first (entry_checks es)) d es q
 
-          go : (o : Option (List Tapes.Command)) → Whole n c 0 ≡ counted 0 (m + 1) 0 o → taken k l p n c ≡ judged k l m (prepend (boards p) o)
+          go : (o : Option (List Tapes.Command)) → gives (count n c) ≡ counted 0 (m + 1) 0 o → gives (taken k l p n c) ≡ judged k l m (prepend (boards p) o)
           go none q = impossible (cc)
           go (some cs) q = rw (one_more m cs) (by_form (m + 1 + length cs) (entries_of cs) q)
 
-      -- a reading is refused
-      pub boards_refused : (n c b : ℕ) → (b ≡ 0 → ⊥) → Whole n c b ≡ counted 0 (m + 1) 0 (commands (drop next tape)) → scanned_as b 0 (or_empty none) ≡ judged k l m (commands (drop at tape))
-      unfolding form_of
-      boards_refused n c b h = rw (tells tape at e).is (go (commands (drop next tape)))
+      -- the form is not kept, or a reading is refused
+      pub boards_refused : (b : ℕ) → refuses b ≡ counted 0 (m + 1) 0 (commands (drop next tape)) → refuses b ≡ judged k l m (commands (drop at tape))
+      unfolding form_of answered
+      boards_refused b = rw (tells tape at e).is (go (commands (drop next tape)))
         where
-          by_refusal : (r : ℕ) (s : Scan) → b ≡ r → scanned_as b 0 (or_empty none) ≡ judged_by r s
-          by_refusal zero s q = absurd (h q)
-          by_refusal (suc r) s q = rw q
+          by_refusal : (r : ℕ) (x : Count) (s : Scan) → refuses b ≡ answered r x → refuses b ≡ answered r s
+          by_refusal zero x s q = impossible (cc)
+          by_refusal (suc r) x s q = let y : b ≡ suc r = cc in rw y
 
-          by_form : (d e : ℕ) (o : Option (List Entry)) → Whole n c b ≡ counted_as 0 d 0 o → scanned_as b 0 (or_empty none) ≡ judged_as k l e (with_boards p o)
-          by_form d e none q = impossible (cc)
-          by_form d e (some es) q = by_refusal (first (entry_checks es)) _ (cc)
+          by_form : (d e : ℕ) (o : Option (List Entry)) → refuses b ≡ counted_as 0 d 0 o → refuses b ≡ judged_as k l e (with_boards p o)
+          by_form d e none q = let y : b ≡ 2 = cc in rw y
+          by_form d e (some es) q = by_refusal (first (entry_checks es)) _ _ q
 
-          go : (o : Option (List Tapes.Command)) → Whole n c b ≡ counted 0 (m + 1) 0 o → scanned_as b 0 (or_empty none) ≡ judged k l m (prepend (boards p) o)
-          go none q = impossible (cc)
+          go : (o : Option (List Tapes.Command)) → refuses b ≡ counted 0 (m + 1) 0 o → refuses b ≡ judged k l m (prepend (boards p) o)
+          go none q = let y : b ≡ 2 = cc in rw y
           go (some cs) q = by_form (m + 1 + length cs) (m + suc (length cs)) (entries_of cs) q
 
-      -- the form is not kept
-      pub boards_broken : Broken ≡ counted 0 (m + 1) 0 (commands (drop next tape)) → scanned_as 2 0 (or_empty none) ≡ judged k l m (commands (drop at tape))
-      unfolding form_of
-      boards_broken = rw (tells tape at e).is (go (commands (drop next tape)))
-        where
-          by_form : (d e : ℕ) (o : Option (List Entry)) → Broken ≡ counted_as 0 d 0 o → scanned_as 2 0 (or_empty none) ≡ judged_as k l e (with_boards p o)
-          by_form d e none q = refl
-          by_form d e (some es) q = impossible (cc)
-
-          go : (o : Option (List Tapes.Command)) → Broken ≡ counted 0 (m + 1) 0 o → scanned_as 2 0 (or_empty none) ≡ judged k l m (prepend (boards p) o)
-          go none q = refl
-          go (some cs) q = by_form (m + 1 + length cs) (m + suc (length cs)) (entries_of cs) q
-
-    no_reading : (n : ℕ) (v : Reading) (next : ℕ) → placed (points n v) next ≡ decoding tape at → scanned_as 2 0 (or_empty none) ≡ judged k l m (commands (drop at tape))
+    no_reading : (n : ℕ) (v : Reading) (next : ℕ) → placed (points n v) next ≡ decoding tape at → refuses 2 ≡ judged k l m (commands (drop at tape))
     unfolding form_of
     no_reading n v next e = rw (tells tape at e).is (go (commands (drop next tape)))
       where
-        go : (o : Option (List Tapes.Command)) → scanned_as 2 0 (or_empty none) ≡ judged k l m (prepend (points n v) o)
+        go : (o : Option (List Tapes.Command)) → refuses 2 ≡ judged k l m (prepend (points n v) o)
         go none = refl
         go (some cs) = refl
 
-    pub no_length : (c : Command) → OneOf (2 ∷ 3 ∷ 4 ∷ 5 ∷ []) (tag_of told.the_type c) → meant c ≡ decoding tape at → scanned_as 2 0 (or_empty none) ≡ judged k l m (commands (drop at tape))
+    pub no_length : (c : Command)
+        → ((d next : ℕ) → c ≡ Axis d next → ⊥)
+        → ((p next : ℕ) → c ≡ Boards p next → ⊥)
+        → meant_by c ≡ decoding tape at
+        → refuses 2 ≡ judged k l m (commands (drop at tape))
     unfolding form_of
-    no_length (Axis d n) t e = absurd (⊎_elim (λ w. omega arith) (⊎_elim (λ w. omega arith) (⊎_elim (λ w. omega arith) (λ w. omega arith))) t)
-    no_length (Boards p n) t e = absurd (⊎_elim (λ w. omega arith) (⊎_elim (λ w. omega arith) (⊎_elim (λ w. omega arith) (λ w. omega arith))) t)
-    no_length (Points n v next) t e = no_reading n (Reading'.Centimetres v) next e
-    no_length (Float c b next) t e = no_reading 1 (reading_of c b) next e
-    no_length (End n) t e = rw (tells tape at e).is (go (commands (drop n tape)))
+    no_length (Axis d next) x y e = absurd (x d next refl)
+    no_length (Boards p next) x y e = absurd (y p next refl)
+    no_length (Points n v next) x y e = no_reading n (Reading'.Centimetres v) next e
+    no_length (Float c b next) x y e = no_reading 1 (reading_of c b) next e
+    no_length (End next) x y e = rw (tells tape at e).is (go (commands (drop next tape)))
       where
-        go : (o : Option (List Tapes.Command)) → scanned_as 2 0 (or_empty none) ≡ judged k l m (prepend end o)
+        go : (o : Option (List Tapes.Command)) → refuses 2 ≡ judged k l m (prepend end o)
         go none = refl
         go (some cs) = refl
-    no_length Bad t e = bad_left tape at (λ o. scanned_as 2 0 (or_empty none) ≡ judged k l m o) e refl refl
+
+    pub no_command_yet : nothing ≡ decoding tape at → refuses 2 ≡ judged k l m (commands (drop at tape))
+    unfolding form_of
+    no_command_yet e = bad_left tape at (λ o. refuses 2 ≡ judged k l m o) e refl refl

@@ -13,7 +13,7 @@ use mir.Val.{SFits, of_z}
 use mir.Facts.{to_z-of_z, Fits-of_z}
 use Rattle.cube_spec.specs.Limits.{tape_limit, padded}
 use Rattle.cube_spec.specs.Bytes.{little}
-use Rattle.cube_spec.specs.Checks.{check, first}
+use Rattle.cube_spec.specs.Checks.{check, first, gives, answered}
 use Rattle.tape_reading.specs.declared.types.Reading.{Reading}
 use Rattle.tape_reading.specs.declared.types.Reading.TheVariants as Reading'
 use Rattle.tape_reading.specs.Readings.{signed32, reading_of, centimetres_of, value_in}
@@ -240,8 +240,8 @@ module _ (ds : List ℕ) (p : ℕ) (vs : List ℤ) (h : Every (λ d. d < 2 ^ 16)
     unfolding reading reading_refusal reading_checks first short_slice filled_or
     reads_written s l = rw (after_scan (written ds p vs) _ passes, holds, le-ltb (length s) (length vs) l) (refl, refl)
 
-    pub scans_written : scanning (written ds p vs) ≡ record { refusal = 0; axes = length ds; lengths = padded ds; p = p; points = length vs; commands = length ds + length vs + 2 }
-    unfolding scanning scan_refusal scanned_as
+    pub scans_written : scanning (written ds p vs) ≡ gives (record { axes = length ds; lengths = padded ds; p = p; points = length vs; commands = length ds + length vs + 2 })
+    unfolding scanning scan_refusal scanned_as answered
     scans_written =
         let c = counts_logged ds p (whole_log vs) h (whole_fits vs k) in
         let w = length-map vs centimetres in

@@ -2,7 +2,7 @@
 use Rattle.std.specs.Prelude.{ℕ, zero, suc, Bool, true, false, List, [], ◌∷◌, ◌++◌, eqb, ltb, length, drop, ℤ}
 use Rattle.std.proofs.Math.Option.{Option, none, some}
 use Rattle.cube_spec.specs.Limits.{tape_limit, padded}
-use Rattle.cube_spec.specs.Checks.{Check, check, first}
+use Rattle.cube_spec.specs.Checks.{Check, check, first, Reply, answered}
 use Rattle.tape_reading.specs.Readings.{centimetres_of, refusal_in}
 use Rattle.tape_spec.specs.declared.types.Scan.{Scan}
 use Rattle.tape_spec.specs.Tapes.{Command, commands, Entry, Form, form, Campaign, campaign}
@@ -46,14 +46,20 @@ abbrev pub command_count : Option (List Command) → ℕ
 command_count none = 0
 command_count (some cs) = length cs
 
--- m commands and a campaign, or a refusal
-unfoldable pub scanned_as : ℕ → ℕ → Campaign → Scan
-scanned_as zero m c =
-    record { refusal = 0; axes = length c.lengths; lengths = padded c.lengths; p = c.p; points = length c.points; commands = m }
-scanned_as (suc n) m c = record { refusal = suc n; axes = 0; lengths = padded []; p = 0; points = 0; commands = 0 }
+-- what a scan tells of m commands and a campaign: how many axes there are, which can pass the limit, the first lengths, p,
+-- "the number of points, a 52 counting as often as it repeats", and of commands
+abbrev pub scan_of : ℕ → Campaign → Scan
+scan_of m c = record { axes = length c.lengths; lengths = padded c.lengths; p = c.p; points = length c.points; commands = m }
 
--- how many axes the tape names, which can pass the limit, the first lengths, p, "the number of points, a 52 counting as often as it repeats", and of commands
-unfoldable pub scanning : List ℕ → Scan
+-- what a scan of a tape that is taken tells
+abbrev pub scan_in : List ℕ → Scan
+scan_in tape = scan_of (command_count (commands tape)) (or_empty (campaign tape))
+
+-- the same, or a refusal
+unfoldable pub scanned_as : ℕ → ℕ → Campaign → Reply Scan
+scanned_as n m c = answered n (scan_of m c)
+
+unfoldable pub scanning : List ℕ → Reply Scan
 scanning tape = scanned_as (scan_refusal tape) (command_count (commands tape)) (or_empty (campaign tape))
 
 -- ---- reading: the points

@@ -1,5 +1,4 @@
 -- `tape_fill::put_points` meets its contract. The invariant: the cells up to i are stored.
--- The cells up to i are stored.
 use Rattle.std.proofs.Common.{◌≡◌, ◌+◌, ◌-◌, replicate}
 use Rattle.std.proofs.lemmas.List.Edits.{sets}
 use Rattle.tape_fill.proofs.put_points.Given as goal

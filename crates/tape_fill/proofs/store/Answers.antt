@@ -12,58 +12,61 @@ use Rattle.tape_fill.proofs.store.Goals as goal
 pub put_points-requires : goal.put_points-requires
 put_points-requires c =
     let x = c.in-Points in
-    let o = c.loop-n in
-    let p = laws.reads _ o.at x.n (Reading'.Centimetres x.v) x.next x.ensures.0 o.invariant.2 in
+    let o = c.loop-command in
+    let p = laws.reads _ o.at x.n (Reading'.Centimetres x.v) x.next (rw x.is at c.in-Some.ensures.0) o.invariant.2 in
     let h = laws.room x.n _ _ _ o.done p (length o.slice) o.invariant.1 in
-    (x.ensures.1.0, omega arith)
+    ((rw x.is at c.in-Some.ensures.1).0, omega arith)
 
-pub loop-n-smaller-in-Points : goal.loop-n-smaller-in-Points
-loop-n-smaller-in-Points c = let m = tells _ c.loop-n.at c.in-Points.ensures.0 in omega arith
+pub loop-command-smaller-in-Points : goal.loop-command-smaller-in-Points
+loop-command-smaller-in-Points c = let m = tells _ c.loop-command.at (rw c.in-Points.is at c.in-Some.ensures.0) in omega arith
 
-pub loop-n-preserved-in-Points : goal.loop-n-preserved-in-Points
+pub loop-command-preserved-in-Points : goal.loop-command-preserved-in-Points
 unfolding centimetres_of
-loop-n-preserved-in-Points c =
+loop-command-preserved-in-Points c =
     let a = c.args in
     let x = c.in-Points in
-    let o = c.loop-n in
-    let p = laws.reads _ o.at x.n (Reading'.Centimetres x.v) x.next x.ensures.0 o.invariant.2 in
+    let o = c.loop-command in
+    let p = laws.reads _ o.at x.n (Reading'.Centimetres x.v) x.next (rw x.is at c.in-Some.ensures.0) o.invariant.2 in
     let ok : SFits w32 x.v = search rules in
     laws.stored x.n _ _ _ o.done p (points_in (left (drop a.start a.tape.now))) a.slice.now o.slice c.put_points.new.slice (rw (to_z-of_z ok) at c.put_points.ensures) o.invariant.0 o.invariant.1 o.invariant.3
 
 pub reading_of-requires : goal.reading_of-requires
 reading_of-requires c =
     let x = c.in-Float in
-    let o = c.loop-n in
-    (x.ensures.1, (laws.reads _ o.at 1 (reading_of x.command x.bits) x.next x.ensures.0 o.invariant.2).good)
+    let o = c.loop-command in
+    ((rw x.is at c.in-Some.ensures.1), (laws.reads _ o.at 1 (reading_of x.byte x.bits) x.next (rw x.is at c.in-Some.ensures.0) o.invariant.2).good)
 
 pub point_of-requires : goal.point_of-requires
 point_of-requires c =
     let x = c.in-Float in
-    let o = c.loop-n in
-    ap (λ r. refusal_in (centimetres_of r)) c.reading_of.ensures ∙ (laws.reads _ o.at 1 (reading_of x.command x.bits) x.next x.ensures.0 o.invariant.2).good
+    let o = c.loop-command in
+    ap (λ r. refusal_in (centimetres_of r)) c.reading_of.ensures ∙ (laws.reads _ o.at 1 (reading_of x.byte x.bits) x.next (rw x.is at c.in-Some.ensures.0) o.invariant.2).good
 
 pub bounds-slice-done : goal.bounds-slice-done
 bounds-slice-done c =
     let x = c.in-Float in
-    let o = c.loop-n in
-    let p = laws.reads _ o.at 1 (reading_of x.command x.bits) x.next x.ensures.0 o.invariant.2 in
+    let o = c.loop-command in
+    let p = laws.reads _ o.at 1 (reading_of x.byte x.bits) x.next (rw x.is at c.in-Some.ensures.0) o.invariant.2 in
     let h = laws.room 1 _ _ _ o.done p (length o.slice) o.invariant.1 in
     omega arith
 
-pub loop-n-smaller : goal.loop-n-smaller
-loop-n-smaller c = let m = tells _ c.loop-n.at c.in-Float.ensures.0 in omega arith
+pub loop-command-smaller : goal.loop-command-smaller
+loop-command-smaller c = let m = tells _ c.loop-command.at (rw c.in-Float.is at c.in-Some.ensures.0) in omega arith
 
-pub loop-n-preserved : goal.loop-n-preserved
-loop-n-preserved c =
+pub loop-command-preserved : goal.loop-command-preserved
+loop-command-preserved c =
     let a = c.args in
     let x = c.in-Float in
-    let o = c.loop-n in
-    let p = laws.reads _ o.at 1 (reading_of x.command x.bits) x.next x.ensures.0 o.invariant.2 in
+    let o = c.loop-command in
+    let p = laws.reads _ o.at 1 (reading_of x.byte x.bits) x.next (rw x.is at c.in-Some.ensures.0) o.invariant.2 in
     let ok : SFits w32 c.point_of.result = record { sfits = c.point_of.type_inv } in
     let v = to_z-of_z ok ∙ c.point_of.ensures ∙ ap laws.value_of c.reading_of.ensures in
     laws.stored 1 _ _ _ o.done p (points_in (left (drop a.start a.tape.now))) a.slice.now o.slice _ (ap (set o.slice o.done) v) o.invariant.0 o.invariant.1 o.invariant.3
 
-pub returns-in_default : goal.returns-in_default
-returns-in_default c =
-    let n = laws.nothing_left _ _ c.decode.result (search rules) c.decode.ensures.0 in
-    rw n at (sym c.loop-n.invariant.3) ∙ laws.filled _ _ c.requires.1
+pub returns-in_default-command : goal.returns-in_default-command
+returns-in_default-command c =
+    let d = c.in_default-command in
+    rw (laws.nothing_left _ _ _ d.not-Points d.not-Float c.in-Some.ensures.0) at (sym c.loop-command.invariant.3) ∙ laws.filled _ _ c.requires.1
+
+pub returns : goal.returns
+returns c = rw (laws.none_left _ _ c.in_default.ensures.0) at (sym c.loop-command.invariant.3) ∙ laws.filled _ _ c.requires.1

@@ -1,6 +1,6 @@
--- `tape_reading::judged` meets its contract: by the order of sizes.
+-- `tape_reading::check_size` meets its contract: by the order of sizes.
 use Rattle.tape_reading.proofs.Sizes.{none_refused, far_refused, no_number_refused}
-use Rattle.tape_reading.proofs.judged.Goals as goal
+use Rattle.tape_reading.proofs.check_size.Goals as goal
 
 pub returns-then-size-last : goal.returns-then-size-last
 returns-then-size-last c = none_refused _ _ c.if-size-last.true
