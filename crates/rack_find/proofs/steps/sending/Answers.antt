@@ -12,7 +12,7 @@ board_of-receiver-requires c =
     let gd = c.well_formed.0.1.1.1.1 in
     let ok = passed_accepted c.args.plan (search rules) (search rules) (search rules) c.requires.passed in
     let own = table_slots c.args.plan.axes _ l.result (few_axes ok) l.ensures in
-    (c.requires.passed, lead_fits ok c.requires l.result (rw (← c.parts_of-parts.ensures.0) own.1))
+    (c.requires.passed, lead_fits ok c.requires l.result (rw (← c.parts_of-others.ensures.0) own.1))
 
 pub bounds-labels-d : goal.bounds-labels-d
 bounds-labels-d c = let gd = c.well_formed.0.1.1.1.1 in let ok = passed_accepted c.args.plan (search rules) (search rules) (search rules) c.requires.passed in let f = few_axes ok in omega (arith, c.requires.within)
@@ -20,16 +20,16 @@ bounds-labels-d c = let gd = c.well_formed.0.1.1.1.1 in let ok = passed_accepted
 pub board_of-sender-requires : goal.board_of-sender-requires
 board_of-sender-requires c =
     let l = c.lead_labels-labels in
-    let p = c.parts_of-parts.ensures.0 in
+    let p = c.parts_of-others.ensures.0 in
     let gd = c.well_formed.0.1.1.1.1 in
     let ok = passed_accepted c.args.plan (search rules) (search rules) (search rules) c.requires.passed in
     let own = table_slots c.args.plan.axes _ l.result (few_axes ok) l.ensures in
     (c.requires.passed, rw p (sender_fits ok c.requires l.result own.0 (rw (← p) own.1)))
 
-pub cells_with-values-requires : goal.cells_with-values-requires
-cells_with-values-requires c =
+pub cells_with-requires : goal.cells_with-requires
+cells_with-requires c =
     let l = c.lead_labels-labels in
-    let p = c.parts_of-parts.ensures.0 in
+    let p = c.parts_of-others.ensures.0 in
     let gd = c.well_formed.0.1.1.1.1 in
     let ok = passed_accepted c.args.plan (search rules) (search rules) (search rules) c.requires.passed in
     let own = table_slots c.args.plan.axes _ l.result (few_axes ok) l.ensures in
@@ -38,9 +38,9 @@ cells_with-values-requires c =
 pub returns : goal.returns
 returns c =
     let l = c.lead_labels-labels in
-    let p = c.parts_of-parts.ensures.0 in
+    let p = c.parts_of-others.ensures.0 in
     let gd = c.well_formed.0.1.1.1.1 in
     let ok = passed_accepted c.args.plan (search rules) (search rules) (search rules) c.requires.passed in
     let own = table_slots c.args.plan.axes _ l.result (few_axes ok) l.ensures in
     let to = c.board_of-receiver.ensures.0 in
-    sent_told ok c.requires l.result own.0 (rw (← p) own.1) to (rw (← p) c.board_of-sender.ensures.0) (rw (← p) c.cells_with-values.ensures.0)
+    sent_told ok c.requires l.result own.0 (rw (← p) own.1) to (rw (← p) c.board_of-sender.ensures.0) (rw (← p) c.cells_with.ensures.0)

@@ -1,6 +1,5 @@
--- `rack_find::steps::step_by` meets its contract: the search begins at the root.
-use mathlib.Core.Path.{◌∙◌}
-use borrow.Author.Rules.{rules}
+-- The search begins at the root.
+use Rattle.std.proofs.Common.{rules, ◌∙◌}
 use Rattle.plan_spec.proofs.Accepting.{passed_accepted}
 use Rattle.rack_spec.proofs.Seeking.{steps_first, steps_later}
 use Rattle.rack_find.proofs.Searches.{root_searching}
@@ -11,18 +10,16 @@ returns-then-at-eq0 c =
     let ok = passed_accepted c.args.plan (search rules) (search rules) (search rules) c.requires.0 in
     rw c.full-root.ensures (steps_first ok c.requires.0 c.if-at-eq0.true)
 
-pub walk-found-requires : goal.walk-found-requires
-walk-found-requires c =
+pub walk-requires : goal.walk-requires
+walk-requires c =
     let ok = passed_accepted c.args.plan (search rules) (search rules) (search rules) c.requires.0 in
-    record { plan = c.args.plan; searching = root_searching ok c.requires.0 c.requires.1 c.full-root.ensures }
+    root_searching ok c.requires.0 c.requires.1 c.full-root.ensures c.from-rest.ensures
 
 pub step_of-requires : goal.step_of-requires
-step_of-requires c =
-    let ok = passed_accepted c.args.plan (search rules) (search rules) (search rules) c.requires.0 in
-    (c.walk-found.ensures c.args.plan (root_searching ok c.requires.0 c.requires.1 c.full-root.ensures)).1
+step_of-requires c = c.walk.ensures.1
 
 pub returns : goal.returns
 returns c =
     let ok = passed_accepted c.args.plan (search rules) (search rules) (search rules) c.requires.0 in
-    let e = (c.walk-found.ensures c.args.plan (root_searching ok c.requires.0 c.requires.1 c.full-root.ensures)).0 in
+    let e = c.walk.ensures.0 in
     c.step_of.ensures ∙ rw c.full-root.ensures at e ∙ steps_later ok c.requires.0 c.if-at-eq0.false
