@@ -4,24 +4,27 @@ use mathlib.Core.Path.{◌≡◌, ◌∙◌, ap, sym, refl}
 use mathlib.Core.Bool.{true, false}
 use mathlib.Core.List.{List, [], ◌∷◌, ◌++◌}
 use native.Mathlib.Omega.{arith}
+use native.Mathlib.Nat.{pos_of_ne-zero}
 use native.Mathlib.Numerals.{add-one}
 use lib.ListN.{length, get_or, take, replicate, length-take}
 use lib.Seq.{take-suc}
 use Rattle.cube_spec.specs.Limits.{axis_limit, padded}
 use Rattle.cube_spec.specs.Boxes.{pick}
+use Rattle.cube_spec.specs.Checks.{gives, refuses}
+use Rattle.cube_spec.proofs.Answered.{given, refused}
 use Rattle.cube_spec.proofs.Slots.{padded_at, padded_take}
 use Rattle.plan_spec.specs.declared.types.Plan.{Plan}
 use Rattle.plan_spec.specs.declared.types.Prices.{Prices}
 use Rattle.plan_spec.specs.declared.types.Planned.{Planned}
 use Rattle.plan_spec.specs.Plans.{moved, slotted}
-use Rattle.plan_spec.specs.Rule.{plan_of, power_used, plan_within}
+use Rattle.plan_spec.specs.Rule.{plan_of, power_used, plan_within, idle_boards}
 use Rattle.plan_spec.specs.Refusals.{planning_refusal}
-use Rattle.plan_spec.specs.Answers.{prices_of, planning}
+use Rattle.plan_spec.specs.Answers.{prices_of, planned_of, planning}
 use Rattle.plan_spec.proofs.Accepting.{planning_accepted, planning_accept}
-use Rattle.plan_spec.proofs.Answering.{refusal_of, plan_of_lem, prices_of_lem}
+use Rattle.plan_spec.proofs.Answering.{given_planned, refused_planned}
 use Rattle.link_spec.specs.declared.types.Searched.{Searched}
 use Rattle.link_spec.specs.declared.types.Tried.{Tried}
-use Rattle.link_spec.specs.Search.{Found, smallest, bad_links, search, search_refusal, searched_as, searching}
+use Rattle.link_spec.specs.Search.{Found, smallest, bad_links, search, search_refusal, searched_of, searching}
 use Rattle.link_spec.specs.Accepted.{SearchAccepted}
 use Rattle.link_spec.specs.Trying.{tried, Searchable}
 use Rattle.link_spec.proofs.Distance.{floor_answer}
@@ -45,48 +48,36 @@ smallest_one (w ∷ l) h = refl
 pub smallest_next : (l : List ℕ) (i : ℕ) → 1 ≤ i → i < length l → smallest (take (i + 1) l) ≡ min (smallest (take i l)) (get_or l i 0)
 smallest_next l i h k = rw (add-one i, take-suc l i 0 k) (smallest_snoc (take i l) (get_or l i 0) (let q = length-take i l in omega arith))
 
--- ---- a refusal
-
-pub blank : (n : ℕ) → 0 < n → (f : Found) → ◌≡◌ {A = Searched} (record { refusal = n; exponents = replicate axis_limit 0; cost = 0; distance = 0; priced = 0 }) (searched_as n f)
-blank zero h f = absurd (omega arith)
-blank (suc n) h f = unfold searched_as padded in refl
-
--- ---- the checks, where r is what planning answers
+-- ---- the checks
 
 module _ (ds : List ℕ) (p : ℕ) (links : List ℕ) (budget : ℕ) where
-  pub refused_as : (s : Searched) (n : ℕ) → ((f : Found) → s ≡ searched_as n f) → n ≡ search_refusal ds p links budget → s ≡ searching ds p links budget
+  pub answer_planning : (n : ℕ) → refuses n ≡ planning ds p → refuses n ≡ searching ds p links budget
   unfolding searching
-  refused_as s n h e = h (search ds p links budget) ∙ ap (λ (k : ℕ). searched_as k (search ds p links budget)) e
+  answer_planning n e =
+      let q = refused_planned ds p n e in
+      rw (← refuses_planning ds p links budget n q.0 q.1) (refused n _ (pos_of_ne-zero q.1))
 
-  module _ (r : Planned) (e : r ≡ planning ds p) where
-    refusal_is : r.refusal ≡ planning_refusal ds p
-    unfolding planning
-    refusal_is = ap (λ (x : Planned). x.refusal) e ∙ refusal_of _ _ _
+  module _ (r : Planned) (e : gives r ≡ planning ds p) where
+    pub answer_budget : budget ≡ 0 → refuses 18 ≡ searching ds p links budget
+    unfolding searching
+    answer_budget h = rw (← refuses_budget ds p links budget (given_planned ds p r e).0 h) (refused 18 _ (omega arith))
 
-    pub due_planning : (r.refusal ≡ 0 → ⊥) → r.refusal ≡ search_refusal ds p links budget
-    due_planning h = refuses_planning ds p links budget r.refusal refusal_is h
-
-    module _ (z : r.refusal ≡ 0) where
-      planned : planning_refusal ds p ≡ 0
-      planned = sym refusal_is ∙ z
-
-      pub due_budget : budget ≡ 0 → 18 ≡ search_refusal ds p links budget
-      due_budget = refuses_budget ds p links budget planned
-
-      pub due_links : (budget ≡ 0 → ⊥) → bad_links (length ds) links ≡ true → 19 ≡ search_refusal ds p links budget
-      due_links = refuses_links ds p links budget planned
+    pub answer_links : (budget ≡ 0 → ⊥) → bad_links (length ds) links ≡ true → refuses 19 ≡ searching ds p links budget
+    unfolding searching
+    answer_links pays bad = rw (← refuses_links ds p links budget (given_planned ds p r e).0 pays bad) (refused 19 _ (omega arith))
 
 -- none is due
 pub record Passed (ds : List ℕ) (p : ℕ) (links : List ℕ) (budget : ℕ) (r : Planned) : Type 0 where
-  pub answer : r ≡ planning ds p
+  pub answer : r ≡ planned_of (idle_boards ds p) (plan_within ds p)
   pub none : search_refusal ds p links budget ≡ 0
   pub fine : SearchAccepted ds p links budget
 
-pub passed : (ds : List ℕ) (p : ℕ) (links : List ℕ) (budget : ℕ) (r : Planned) → r ≡ planning ds p → r.refusal ≡ 0 → (budget ≡ 0 → ⊥)
+pub passed : (ds : List ℕ) (p : ℕ) (links : List ℕ) (budget : ℕ) (r : Planned) → gives r ≡ planning ds p → (budget ≡ 0 → ⊥)
     → bad_links (length ds) links ≡ false → Passed ds p links budget r
-passed ds p links budget r e z pays good =
-    let none = refuses_nothing ds p links budget (planned ds p links budget r e z) pays good in
-    record { answer = e; none = none; fine = accepted ds p links budget none }
+passed ds p links budget r e pays good =
+    let g = given_planned ds p r e in
+    let none = refuses_nothing ds p links budget g.0 pays good in
+    record { answer = g.1; none = none; fine = accepted ds p links budget none }
 
 -- ---- the answer, of lengths and link weights in slots
 
@@ -95,12 +86,12 @@ module _ {ds : List ℕ} {p : ℕ} {links : List ℕ} {budget : ℕ} {r : Planne
   planned_too = planning_accept ds p k.fine.lengths k.fine.boards
 
   used_is : r.plan.p ≡ power_used ds p
-  unfolding planning slotted plan_of
-  used_is = ap (λ (x : Planned). x.plan.p) k.answer ∙ ap (λ (x : Plan). x.p) (plan_of_lem _ _ _ planned_too)
+  unfolding slotted plan_of
+  used_is = ap (λ (x : Planned). x.plan.p) k.answer
 
   moved_is : r.prices.moved ≡ moved (plan_within ds p)
-  unfolding planning prices_of
-  moved_is = ap (λ (x : Planned). x.prices.moved) k.answer ∙ ap (λ (x : Prices). x.moved) (prices_of_lem _ _ _ planned_too)
+  unfolding prices_of
+  moved_is = ap (λ (x : Planned). x.prices.moved) k.answer
 
   pub few : length ds ≤ axis_limit
   few = k.fine.lengths.few
@@ -111,38 +102,23 @@ module _ {ds : List ℕ} {p : ℕ} {links : List ℕ} {budget : ℕ} {r : Planne
   pub some_links : 0 < length links
   some_links = rw k.fine.each k.fine.lengths.axes
 
-  module _ (lens weights : List ℕ) (l : lens ≡ padded ds) (w : weights ≡ padded links) where
-    lens_are : take (length ds) lens ≡ ds
-    lens_are = rw l (padded_take ds (length ds) refl few)
+  pub searchable : Searchable ds links r.plan.p × (1 ≤ budget)
+  searchable =
+      let a = planning_accepted ds p planned_too in
+      (record { lengths = a.lengths; boards = rw used_is a.boards; enough = rw used_is a.enough; each = k.fine.each; low = k.fine.most }, k.fine.pays)
 
-    weights_are : take (length ds) weights ≡ links
-    weights_are = rw w (padded_take links (length ds) k.fine.each few)
+  module _ (t : Tried) (f : t ≡ tried ds r.plan.p links budget) (s : ℕ) (g : s ≡ smallest links) where
+    tried_is : t ≡ tried ds (power_used ds p) links budget
+    tried_is = f ∙ (rw used_is)
 
-    pub searchable : Searchable lens weights (length ds) r.plan.p × (1 ≤ budget)
-    searchable =
-        let a = planning_accepted ds p planned_too in
-        let fits : Searchable lens weights (length ds) r.plan.p =
-        record {
-          few = few;
-          lengths = rw lens_are a.lengths;
-          boards = rw used_is a.boards;
-          enough = rw (lens_are, used_is) a.enough;
-          low = λ d h. rw (w, padded_at links d (let f = few in omega arith)) (k.fine.most d h);
-        } in
-        (fits, k.fine.pays)
+    cost_is : t.cost ≡ (search ds p links budget).cost
+    unfolding search tried
+    cost_is = ap (λ (x : Tried). x.cost) tried_is
 
-    module _ (t : Tried) (f : t ≡ tried (take (length ds) lens) r.plan.p (take (length ds) weights) budget) (s : ℕ) (g : s ≡ smallest links) where
-      tried_is : t ≡ tried ds (power_used ds p) links budget
-      tried_is = f ∙ (rw (lens_are, weights_are, used_is))
+    pub floor_holds : s * r.prices.moved ≤ t.cost
+    floor_holds = rw (g, moved_is, cost_is) (floor_answer ds p links k.fine.lengths.some k.fine.each budget k.fine.pays)
 
-      cost_is : t.cost ≡ (search ds p links budget).cost
-      unfolding search tried
-      cost_is = ap (λ (x : Tried). x.cost) tried_is
-
-      pub floor_holds : s * r.prices.moved ≤ t.cost
-      floor_holds = rw (g, moved_is, cost_is) (floor_answer ds p links k.fine.lengths.some k.fine.each budget k.fine.pays)
-
-      pub searched_as_lem : (d : ℕ) → d ≡ pick t.all 0 (t.cost - s * r.prices.moved)
-          → ◌≡◌ {A = Searched} (record { refusal = 0; exponents = t.exponents; cost = t.cost; distance = d; priced = t.priced }) (searching ds p links budget)
-      unfolding searching searched_as search tried
-      searched_as_lem d x = rw (k.none, x, g, moved_is, tried_is) refl
+    pub answer_found : (d : ℕ) → d ≡ pick t.all 0 (t.cost - s * r.prices.moved)
+        → gives (record { exponents = t.exponents; cost = t.cost; distance = d; priced = t.priced }) ≡ searching ds p links budget
+    unfolding searching searched_of search tried
+    answer_found d x = rw (x, g, moved_is, tried_is) (given _ _ k.none)

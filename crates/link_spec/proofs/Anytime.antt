@@ -4,42 +4,40 @@ use mathlib.Core.Path.{◌≡◌, sym, ◌∙◌, refl, ap, subst}
 use mathlib.Core.List.{List}
 use lib.ListN.{length}
 use Rattle.cube_spec.specs.Limits.{padded}
+use Rattle.cube_spec.specs.Checks.{gives, refuses}
+use Rattle.cube_spec.proofs.Answered.{gives_is, refuses_is}
 use Rattle.plan_spec.specs.Plans.{moved}
 use Rattle.plan_spec.specs.Rule.{power_used, plan_within}
+use Rattle.link_spec.specs.declared.types.Searched.{Searched}
 use Rattle.link_spec.specs.Divisions.{in_use}
 use Rattle.link_spec.specs.Costs.{link_of, fare, cheapest_cost}
-use Rattle.link_spec.specs.Search.{Found, search, search_refusal, searched_as, searching}
+use Rattle.link_spec.specs.Search.{Found, search, search_refusal, searched_of, searching}
 use Rattle.link_spec.specs.Accepted.{SearchAccepted}
 use Rattle.link_spec.specs.Anytime.{Anytime}
 use Rattle.link_spec.proofs.Winners.{cheapest_way, cheapest_least, cheapest_attained}
 use Rattle.link_spec.proofs.Listing.{listing}
-use Rattle.link_spec.proofs.Deciding.{accepted}
+use Rattle.link_spec.proofs.Deciding.{accepted, accept}
 use Rattle.link_spec.proofs.Distance as distance
 
-refusal_of : (k : ℕ) (f : Found) → (searched_as k f).refusal ≡ k
-unfolding searched_as
-refusal_of zero f = refl
-refusal_of (suc k) f = refl
-
 module _ (ds : List ℕ) (p : ℕ) (links : List ℕ) where
-  pub refusal_is : (budget : ℕ) → (searching ds p links budget).refusal ≡ search_refusal ds p links budget
+  pub refusal_is : (budget n : ℕ) → refuses n ≡ searching ds p links budget → n ≡ search_refusal ds p links budget
   unfolding searching
-  refusal_is budget = refusal_of (search_refusal ds p links budget) (search ds p links budget)
+  refusal_is budget n e = refuses_is _ n _ e
 
   -- what is not refused is the search's
-  found_is : (budget : ℕ) → (searching ds p links budget).refusal ≡ 0 → searching ds p links budget ≡ searched_as 0 (search ds p links budget)
+  pub found_is : (budget : ℕ) (r : Searched) → gives r ≡ searching ds p links budget → (search_refusal ds p links budget ≡ 0) × (r ≡ searched_of (search ds p links budget))
   unfolding searching
-  found_is budget z = ap (λ (k : ℕ). searched_as k (search ds p links budget)) (sym (refusal_is budget) ∙ z)
+  found_is budget r e = gives_is _ _ r e
 
-  fine : (budget : ℕ) → (searching ds p links budget).refusal ≡ 0 → SearchAccepted ds p links budget
-  fine budget z = accepted ds p links budget (sym (refusal_is budget) ∙ z)
+  fine : (budget : ℕ) (r : Searched) → gives r ≡ searching ds p links budget → SearchAccepted ds p links budget
+  fine budget r e = accepted ds p links budget (found_is budget r e).0
 
-  found_anytime : (budget : ℕ) → SearchAccepted ds p links budget → Anytime ds p links budget (searched_as 0 (search ds p links budget))
-  unfolding searched_as
+  found_anytime : (budget : ℕ) → SearchAccepted ds p links budget → Anytime ds p links budget (searched_of (search ds p links budget))
+  unfolding searched_of
   found_anytime budget ok =
       let (e, g) = distance.answer_division ds p links ok.lengths.some ok.each budget ok.pays in
       record {
-        accepted = refl;
+        accepted = accept ds p links budget ok;
         listed = listing ds (power_used ds p) ok.lengths.some;
         least = λ e w. cheapest_least ds links e w;
         parents = λ e. (cheapest_way (fare links e.exponents) (length ds), cheapest_attained ds links e);
@@ -55,27 +53,27 @@ module _ (ds : List ℕ) (p : ℕ) (links : List ℕ) where
         undercut = distance.undercut ds p links ok.lengths.some ok.each budget ok.pays;
       }
 
-  pub anytime : (budget : ℕ) → (searching ds p links budget).refusal ≡ 0 → Anytime ds p links budget (searching ds p links budget)
-  anytime budget z = subst (Anytime ds p links budget) (sym (found_is budget z)) (found_anytime budget (fine budget z))
+  pub anytime : (budget : ℕ) (r : Searched) → gives r ≡ searching ds p links budget → Anytime ds p links budget r
+  anytime budget r e = subst (Anytime ds p links budget) (sym (found_is budget r e).1) (found_anytime budget (fine budget r e))
 
   -- WITH A LARGER BUDGET NEITHER THE COST NOR THE DISTANCE RISES
-  module _ (b c : ℕ) (h : b ≤ c) (x : (searching ds p links b).refusal ≡ 0) (y : (searching ds p links c).refusal ≡ 0) where
-    pub cost_falls : (searching ds p links c).cost ≤ (searching ds p links b).cost
-    unfolding searched_as
+  module _ (b c : ℕ) (h : b ≤ c) (r s : Searched) (x : gives r ≡ searching ds p links b) (y : gives s ≡ searching ds p links c) where
+    pub cost_falls : s.cost ≤ r.cost
+    unfolding searched_of
     cost_falls =
-        let ok = fine b x in
-        rw (found_is b x, found_is c y) (distance.cost_falls ds p links ok.lengths.some ok.each b c ok.pays h)
+        let ok = fine b r x in
+        rw ((found_is b r x).1, (found_is c s y).1) (distance.cost_falls ds p links ok.lengths.some ok.each b c ok.pays h)
 
-    pub distance_falls : (searching ds p links c).distance ≤ (searching ds p links b).distance
-    unfolding searched_as
+    pub distance_falls : s.distance ≤ r.distance
+    unfolding searched_of
     distance_falls =
-        let ok = fine b x in
-        rw (found_is b x, found_is c y) (distance.distance_falls ds p links ok.lengths.some ok.each b c ok.pays h)
+        let ok = fine b r x in
+        rw ((found_is b r x).1, (found_is c s y).1) (distance.distance_falls ds p links ok.lengths.some ok.each b c ok.pays h)
 
   -- WITH ALL LINK WEIGHTS w THE WHOLE SEARCH COSTS w FOR EACH VALUE THAT THE PLANNER MOVES
-  pub alike : (budget w : ℕ) → (searching ds p links budget).refusal ≡ 0 → ((d : ℕ) → d < length ds → link_of links d ≡ w) → length (in_use ds p) ≤ budget
-      → (searching ds p links budget).cost ≡ w * moved (plan_within ds p)
-  unfolding searched_as
-  alike budget w z h l =
-      let ok = fine budget z in
-      rw (found_is budget z) (distance.alike_all ds p links ok.lengths.some ok.each budget ok.pays w ok.lengths.axes h l)
+  pub alike : (budget w : ℕ) (r : Searched) → gives r ≡ searching ds p links budget → ((d : ℕ) → d < length ds → link_of links d ≡ w)
+      → length (in_use ds p) ≤ budget → r.cost ≡ w * moved (plan_within ds p)
+  unfolding searched_of
+  alike budget w r e h l =
+      let ok = fine budget r e in
+      rw (found_is budget r e).1 (distance.alike_all ds p links ok.lengths.some ok.each budget ok.pays w ok.lengths.axes h l)

@@ -2,6 +2,7 @@
 use mathlib.Core.Path.{◌≡◌, refl}
 use mathlib.Core.List.{List, [], ◌∷◌}
 use Rattle.cube_spec.specs.Limits.{padded}
+use Rattle.cube_spec.specs.Checks.{Reply, answered}
 use Rattle.plan_spec.specs.Rule.{plan_within}
 use Rattle.link_spec.specs.declared.types.Searched.{Searched}
 use Rattle.link_spec.specs.Costs.{cheapest_cost}
@@ -9,14 +10,14 @@ use Rattle.link_spec.specs.Search.{searching}
 use Rattle.link_spec.specs.Computing.{computing}
 use Rattle.link_spec.proofs.Listed.{Row, one_axis, two_axes, three_axes, four_axes, large_budgets, boards_idle, whole_portions, axis_order, cheapest_parents, unequal_links, equal_links, ties, distances, many_axes, taken, refused, before_six, from_five_on}
 
-unfoldable answered_all : List Row → List Searched
+unfoldable answered_all : List Row → List (Reply Searched)
 answered_all [] = []
 answered_all (r ∷ l) = searching r.lengths r.p r.links r.budget ∷ answered_all l
 
-unfoldable listed_all : List Row → List Searched
+unfoldable listed_all : List Row → List (Reply Searched)
 listed_all [] = []
 listed_all (r ∷ l) =
-    record { refusal = r.refusal; exponents = padded r.exponents; cost = r.cost; distance = r.distance; priced = r.priced } ∷ listed_all l
+    answered r.refusal (record { exponents = padded r.exponents; cost = r.cost; distance = r.distance; priced = r.priced }) ∷ listed_all l
 
 abbrev Same : List Row → Type 0
 Same l = answered_all l ≡ listed_all l

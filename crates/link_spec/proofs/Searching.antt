@@ -29,7 +29,7 @@ use Rattle.link_spec.specs.Divisions.{divisions}
 use Rattle.link_spec.specs.Costs.{fare, cheapest_cost}
 use Rattle.link_spec.specs.Search.{cheaper, first_cheapest}
 use Rattle.link_spec.specs.Shares.{shares_cost, Rated}
-use Rattle.link_spec.specs.Stepping.{caps_of, filled, next_of, Next, went, next_as}
+use Rattle.link_spec.specs.Stepping.{caps_of, filled, next_of, Next, went, next_or}
 use Rattle.link_spec.specs.Trying.{tried, Searchable}
 use Rattle.link_spec.proofs.Listing.{at_in, in_divides, Divides}
 use Rattle.link_spec.proofs.Chain.{head_or, Follows, divisions_chain}
@@ -83,11 +83,8 @@ caps_at [] i h = absurd (omega arith)
 caps_at (d ∷ ds) zero h = refl
 caps_at (d ∷ ds) (suc i) h = caps_at ds i (omega arith)
 
-pub caps_table : (lens : List ℕ) (n : ℕ) → length lens ≡ axis_limit → n ≤ axis_limit → caps_of (take n lens) ≡ table n (λ d. log2 (get_or lens d 0))
-caps_table lens n e h =
-    let l = first_length lens n e h in
-    table_of n (λ d. log2 (get_or lens d 0)) (caps_of (take n lens)) 0 (caps_length (take n lens) ∙ l)
-    (λ j k. caps_at (take n lens) j (omega arith) ∙ ap log2 (get_or-take n lens j 0 k))
+pub caps_table : (ds : List ℕ) → caps_of ds ≡ table (length ds) (λ d. log2 (get_or ds d 0))
+caps_table ds = table_of (length ds) (λ d. log2 (get_or ds d 0)) (caps_of ds) 0 (caps_length ds) (λ j k. caps_at ds j k)
 
 -- ---- one more
 
@@ -133,101 +130,86 @@ head_first (x ∷ l) e h = (omega arith, cc)
 
 -- ---- the search
 
-module _ (lens links : List ℕ) (n q : ℕ) (slots : length lens ≡ axis_limit) (ok : Searchable lens links n q) where
+module _ (ds links : List ℕ) (q : ℕ) (ok : Searchable ds links q) where
   -- all divisions, and what each costs
   abbrev all : List (List ℕ)
-  all = divisions (take n lens) q
+  all = divisions ds q
 
   abbrev cost : List ℕ → ℕ
-  cost = cheapest_cost (take n lens) (take n links)
+  cost = cheapest_cost ds links
 
-  count : length (take n lens) ≡ n
-  count = first_length lens n slots ok.few
+  few : length ds ≤ axis_limit
+  few = ok.lengths.few
 
   -- the first, and each from the one before
-  chain : (head_or (divisions (take n lens) q) none ≡ some (filled (caps_of (take n lens)) q)) × Follows (caps_of (take n lens)) (divisions (take n lens) q) none
-  chain = divisions_chain (take n lens) q ok.lengths.some ok.enough
+  chain : (head_or (divisions ds q) none ≡ some (filled (caps_of ds) q)) × Follows (caps_of ds) (divisions ds q) none
+  chain = divisions_chain ds q ok.lengths.some ok.enough
 
   pub there : 0 < length all
-  there = (head_first (divisions (take n lens) q) (filled (caps_of (take n lens)) q) chain.0).0
+  there = (head_first (divisions ds q) (filled (caps_of ds) q) chain.0).0
 
-  first_is : get_or all 0 [] ≡ filled (caps_of (take n lens)) q
-  first_is = (head_first (divisions (take n lens) q) (filled (caps_of (take n lens)) q) chain.0).1
+  first_is : get_or all 0 [] ≡ filled (caps_of ds) q
+  first_is = (head_first (divisions ds q) (filled (caps_of ds) q) chain.0).1
 
-  divides_at : (i : ℕ) → i < length all → Divides (take n lens) q (get_or all i [])
-  divides_at i h = in_divides (take n lens) q ok.lengths.some (at_in (divisions (take n lens) q) i [] h)
+  divides_at : (i : ℕ) → i < length all → Divides ds q (get_or all i [])
+  divides_at i h = in_divides ds q ok.lengths.some (at_in (divisions ds q) i [] h)
 
-  each_at : (i : ℕ) → i < length all → length (get_or all i []) ≡ n
-  each_at i h = (divides_at i h).each ∙ count
+  each_at : (i : ℕ) → i < length all → length (get_or all i []) ≡ length ds
+  each_at i h = (divides_at i h).each
 
-  module _ (caps : List ℕ) (capped : caps ≡ padded (caps_of (take n lens))) where
-    caps_are : take n caps ≡ caps_of (take n lens)
-    caps_are = rw capped (padded_take (caps_of (take n lens)) n (caps_length (take n lens) ∙ count) ok.few)
+  pub lens_bounded : Bounded (λ d. get_or ds d 0) (length ds)
+  lens_bounded = record { few = few; some = ok.lengths.some; short = ok.lengths.short; small = unfold points in ok.lengths.small }
+
+  -- exponents in slots
+  module _ (i : ℕ) (at : List ℕ) (h : i < length all) (e : at ≡ padded (get_or all i [])) where
+    at_takes : take (length ds) at ≡ get_or all i []
+    at_takes = rw e (padded_take (get_or all i []) (length ds) (each_at i h) few)
+
+    pub at_sums : sum_list (take (length ds) at) ≤ power_limit
+    at_sums =
+        let d = (divides_at i h).sums in
+        let b = ok.boards in
+        rw at_takes (omega arith)
+
+    pub at_rated : Rated (take (length ds) at) links (length ds)
+    at_rated =
+        rw at_takes
+        (record {
+          few = few;
+          cut = λ d k. let l = sum_member (get_or all i []) d in let t = (divides_at i h).sums in let b = ok.boards in omega arith;
+          low = ok.low;
+        })
+
+    pub at_cost : shares_cost (λ d. get_or ds d 0) (fare links (take (length ds) at)) (length ds) ≡ cost (get_or all i [])
+    at_cost = rw at_takes (sym (cheapest_shares ds links (get_or all i [])))
+
+  -- caps in slots
+  module _ (caps : List ℕ) (capped : caps ≡ padded (caps_of ds)) where
+    caps_are : take (length ds) caps ≡ caps_of ds
+    caps_are = rw capped (padded_take (caps_of ds) (length ds) (caps_length ds) few)
 
     -- the first division, filled into empty slots
-    pub start : (at : List ℕ) → at ≡ take 0 (replicate 8 0) ++ (filled (drop 0 (take n caps)) q ++ drop n (replicate 8 0)) → at ≡ padded (get_or all 0 [])
-    start at e = e ∙ (rw (caps_are, ← first_is) (padded_over (get_or all 0 []) (replicate 8 0) n (each_at 0 there) ok.few refl (λ j k. zeros_spare j)))
+    pub start : (at : List ℕ) → at ≡ filled (take (length ds) caps) q ++ drop (length ds) (replicate 8 0) → at ≡ padded (get_or all 0 [])
+    start at e = e ∙ (rw (caps_are, ← first_is) (padded_over (get_or all 0 []) (replicate 8 0) (length ds) (each_at 0 there) few refl (λ j k. zeros_spare j)))
 
     module _ (i : ℕ) (at : List ℕ) (h : i < length all) (e : at ≡ padded (get_or all i [])) where
-      at_takes : take n at ≡ get_or all i []
-      at_takes = rw e (padded_take (get_or all i []) n (each_at i h) ok.few)
+      next_is : next_of (take (length ds) caps) (take (length ds) at) ≡ head_or (drop (suc i) all) none
+      next_is = rw (caps_are, at_takes i at h e) (follows_at (caps_of ds) (divisions ds q) chain.1 i h)
 
-      pub at_sums : sum_list (take n at) ≤ power_limit
-      at_sums =
-          let d = (divides_at i h).sums in
-          let b = ok.boards in
-          rw at_takes (omega arith)
+      -- the next one
+      pub next_some : suc i < length all → next_or (take (length ds) at) (next_of (take (length ds) caps) (take (length ds) at)) ≡ went true (get_or all (suc i) [])
+      unfolding next_or
+      next_some k = rw (next_is, head_some all (suc i) k) refl
 
-      next_is : next_of (take n caps) (take n at) ≡ head_or (drop (suc i) all) none
-      next_is = rw (caps_are, at_takes) ((follows_at (caps_of (take n lens)) (divisions (take n lens) q) chain.1 i h))
+      pub next_none : length all ≤ suc i → next_or (take (length ds) at) (next_of (take (length ds) caps) (take (length ds) at)) ≡ went false (take (length ds) at)
+      unfolding next_or
+      next_none k = rw (next_is, head_none all (suc i) k) refl
 
-      -- the next one, in slots
-      pub next_some : suc i < length all → next_as n at (next_of (take n caps) (take n at)) ≡ went true (padded (get_or all (suc i) []))
-      unfolding next_as
-      next_some k =
-          rw (next_is, head_some all (suc i) k)
-          (ap (λ (x : List ℕ). went true x)
-          (rw e (padded_over (get_or all (suc i) []) (padded (get_or all i [])) n (each_at (suc i) k) ok.few (padded_length (get_or all i [])) (padded_spare (get_or all i []) n (each_at i h) ok.few))))
-
-      pub next_none : length all ≤ suc i → next_as n at (next_of (take n caps) (take n at)) ≡ went false at
-      unfolding next_as
-      next_none k = rw (next_is, head_none all (suc i) k)
-
-  -- ---- its cost
-
-  module _ (i : ℕ) (at : List ℕ) (h : i < length all) (e : at ≡ padded (get_or all i [])) where
-    slot_at : (d : ℕ) → d < n → get_or at d 0 ≡ get_or (get_or all i []) d 0
-    slot_at d k = rw e (padded_at (get_or all i []) d (let f = ok.few in omega arith))
-
-    pub at_rated : Rated at links n
-    at_rated =
-        record {
-          few = ok.few;
-          cut = λ d k. let s = slot_at d k in let l = sum_member (get_or all i []) d in let t = (divides_at i h).sums in let b = ok.boards in omega arith;
-          low = ok.low;
-        }
-
-    pub at_cost : shares_cost (λ d. get_or lens d 0) (fare links at) n ≡ cost (get_or all i [])
-    at_cost =
-        shares_cong (λ d. get_or lens d 0) (length_of (take n lens)) (fare links at) (fare (take n links) (get_or all i [])) n (λ d k. sym (get_or-take n lens d 0 k))
-        (λ d k. unfold fare in (ap₂ (λ (x y : ℕ). sent x * y) (slot_at d k) (sym (get_or-take n links d 0 k))))
-        ∙ ap (shares_cost (length_of (take n lens)) (fare (take n links) (get_or all i []))) (sym count)
-        ∙ sym (cheapest_shares (take n lens) (take n links) (get_or all i []))
-
-  pub lens_bounded : Bounded (λ d. get_or lens d 0) n
-  lens_bounded =
-      record {
-        few = ok.few;
-        some = λ d h. rw (get_or-take n lens d 0 h) at (ok.lengths.some d (rw count h));
-        short = λ d h. rw (get_or-take n lens d 0 h) at (ok.lengths.short d (rw count h));
-        small = small;
-      }
-    where
-      small : product (λ d. get_or lens d 0) n 0 ≤ point_limit
-      small =
-          let s : product (length_of (take n lens)) (length (take n lens)) 0 ≤ point_limit = (unfold points in ok.lengths.small) in
-          let e = product_cong {e = λ d. get_or lens d 0} {e' = length_of (take n lens)} n 0 (λ i l r. sym (get_or-take n lens i 0 (omega arith))) in
-          rw e (rw count at s)
+      -- in slots again
+      pub next_slots : suc i < length all → (to : List ℕ) → to ≡ get_or all (suc i) [] ++ drop (length ds) at → to ≡ padded (get_or all (suc i) [])
+      next_slots k to f =
+          f
+          ∙ rw e (padded_over (get_or all (suc i) []) (padded (get_or all i [])) (length ds) (each_at (suc i) k) few (padded_length (get_or all i [])) (padded_spare (get_or all i []) (length ds) (each_at i h) few))
 
 -- ---- turns
 
@@ -290,32 +272,31 @@ module _ (ds links : List ℕ) (q budget : ℕ) (at best : List ℕ) (least pric
 -- ---- the same in the code's terms
 
 -- where the search stands, with what it goes by
-pub record Turn (lens links : List ℕ) (n q : ℕ) (caps : List ℕ) (budget : ℕ) (at best : List ℕ) (least priced : ℕ) : Type 0 where
-  pub slots : length lens ≡ axis_limit
-  pub ok : Searchable lens links n q
-  pub capped : caps ≡ padded (caps_of (take n lens))
-  pub state : Trying (divisions (take n lens) q) (cheapest_cost (take n lens) (take n links)) budget at best least priced
+pub record Turn (ds links : List ℕ) (q : ℕ) (caps : List ℕ) (budget : ℕ) (at best : List ℕ) (least priced : ℕ) : Type 0 where
+  pub ok : Searchable ds links q
+  pub capped : caps ≡ padded (caps_of ds)
+  pub state : Trying (divisions ds q) (cheapest_cost ds links) budget at best least priced
 
 -- the first division, filled into empty slots
-module _ {lens links : List ℕ} {n q : ℕ} (slots : length lens ≡ axis_limit) (ok : Searchable lens links n q) {caps : List ℕ} (capped : caps ≡ padded (caps_of (take n lens)))
-    {at : List ℕ} (e : at ≡ take 0 (replicate 8 0) ++ (filled (drop 0 (take n caps)) q ++ drop n (replicate 8 0))) where
-  begun : at ≡ padded (get_or (divisions (take n lens) q) 0 [])
-  begun = start lens links n q slots ok caps capped at e
+module _ {ds links : List ℕ} {q : ℕ} (ok : Searchable ds links q) {caps : List ℕ} (capped : caps ≡ padded (caps_of ds))
+    {at : List ℕ} (e : at ≡ filled (take (length ds) caps) q ++ drop (length ds) (replicate 8 0)) where
+  begun : at ≡ padded (get_or (divisions ds q) 0 [])
+  begun = start ds links q ok caps capped at e
 
-  pub starts_rated : Rated at links n × Bounded (λ d. get_or lens d 0) n
-  starts_rated = (at_rated lens links n q slots ok 0 at (there lens links n q slots ok) begun, lens_bounded lens links n q slots ok)
+  pub starts_rated : Rated (take (length ds) at) links (length ds) × Bounded (λ d. get_or ds d 0) (length ds)
+  starts_rated = (at_rated ds links q ok 0 at (there ds links q ok) begun, lens_bounded ds links q ok)
 
-  pub starts : {budget least : ℕ} → 1 ≤ budget → least ≡ shares_cost (λ d. get_or lens d 0) (fare links at) n → Turn lens links n q caps budget at at least 1
+  pub starts : {budget least : ℕ} → 1 ≤ budget → least ≡ shares_cost (λ d. get_or ds d 0) (fare links (take (length ds) at)) (length ds)
+      → Turn ds links q caps budget at at least 1
   starts {budget} {least} b c =
-      let t = there lens links n q slots ok in
-      let cost = c ∙ at_cost lens links n q slots ok 0 at t begun in
-      let s = trying_start (divisions (take n lens) q) (cheapest_cost (take n lens) (take n links)) budget at least b t begun cost in
-      record { slots = slots; ok = ok; capped = capped; state = s }
+      let t = there ds links q ok in
+      let s = trying_start (divisions ds q) (cheapest_cost ds links) budget at least b t begun (c ∙ at_cost ds links q ok 0 at t begun) in
+      record { ok = ok; capped = capped; state = s }
 
 -- a turn finds the next one, or there is none
-module _ {lens links : List ℕ} {n q : ℕ} {caps : List ℕ} {budget : ℕ} {at best : List ℕ} {least priced : ℕ} (t : Turn lens links n q caps budget at best least priced) where
+module _ {ds links : List ℕ} {q : ℕ} {caps : List ℕ} {budget : ℕ} {at best : List ℕ} {least priced : ℕ} (t : Turn ds links q caps budget at best least priced) where
   abbrev every : List (List ℕ)
-  every = divisions (take n lens) q
+  every = divisions ds q
 
   spot : priced - 1 < length every
   spot =
@@ -324,23 +305,23 @@ module _ {lens links : List ℕ} {n q : ℕ} {caps : List ℕ} {budget : ℕ} {a
       omega arith
 
   pub turn_slots : (length at ≡ axis_limit) × (length caps ≡ axis_limit)
-  turn_slots = (rw t.state.now (padded_length (get_or every (priced - 1) [])), rw t.capped (padded_length (caps_of (take n lens))))
+  turn_slots = (rw t.state.now (padded_length (get_or every (priced - 1) [])), rw t.capped (padded_length (caps_of ds)))
 
-  pub turn_sums : sum_list (take n at) ≤ power_limit
-  turn_sums = at_sums lens links n q t.slots t.ok caps t.capped (priced - 1) at spot t.state.now
+  pub turn_sums : sum_list (take (length ds) at) ≤ power_limit
+  turn_sums = at_sums ds links q t.ok (priced - 1) at spot t.state.now
 
-  module _ (r : Next) (e : r ≡ next_as n at (next_of (take n caps) (take n at))) where
-    turn_finds : priced < length every → (r.found ≡ true) × (r.exponents ≡ padded (get_or every priced []))
+  module _ (r : Next) (e : r ≡ next_or (take (length ds) at) (next_of (take (length ds) caps) (take (length ds) at))) where
+    turn_finds : priced < length every → (r.found ≡ true) × (r.exponents ≡ get_or every priced [])
     turn_finds h =
         let a = t.state.some in
         let p : suc (priced - 1) ≡ priced = omega arith in
-        let z = e ∙ next_some lens links n q t.slots t.ok caps t.capped (priced - 1) at spot t.state.now (omega arith) in
-        (ap (λ (x : Next). x.found) z, ap (λ (x : Next). x.exponents) z ∙ ap (λ (i : ℕ). padded (get_or every i [])) p)
+        let z = e ∙ next_some ds links q t.ok caps t.capped (priced - 1) at spot t.state.now (omega arith) in
+        (ap (λ (x : Next). x.found) z, ap (λ (x : Next). x.exponents) z ∙ ap (λ (i : ℕ). get_or every i []) p)
 
     turn_misses : length every ≤ priced → r.found ≡ false
     turn_misses h =
         let a = t.state.some in
-        ap (λ (x : Next). x.found) (e ∙ next_none lens links n q t.slots t.ok caps t.capped (priced - 1) at spot t.state.now (omega arith))
+        ap (λ (x : Next). x.found) (e ∙ next_none ds links q t.ok caps t.capped (priced - 1) at spot t.state.now (omega arith))
 
     -- so a test of what was found tells
     found_one : r.found ≡ true → priced < length every
@@ -358,35 +339,40 @@ module _ {lens links : List ℕ} {n q : ℕ} {caps : List ℕ} {budget : ℕ} {a
         go (no h) = clash (sym (turn_finds (omega arith)).0 ∙ f)
 
     -- the end: none is left, or the budget is spent and one more look says whether any is
-    pub turn_ends : r.found ≡ false → ◌≡◌ {A = Tried} (record { exponents = best; cost = least; priced = priced; all = true }) (tried (take n lens) q (take n links) budget)
-    turn_ends f = tried_all (take n lens) (take n links) q budget at best least priced t.state (found_none f)
+    pub turn_ends : r.found ≡ false → ◌≡◌ {A = Tried} (record { exponents = best; cost = least; priced = priced; all = true }) (tried ds q links budget)
+    turn_ends f = tried_all ds links q budget at best least priced t.state (found_none f)
 
-    pub last_look : budget ≤ priced → ◌≡◌ {A = Tried} (record { exponents = best; cost = least; priced = priced; all = not r.found }) (tried (take n lens) q (take n links) budget)
+    pub last_look : budget ≤ priced → ◌≡◌ {A = Tried} (record { exponents = best; cost = least; priced = priced; all = not r.found }) (tried ds q links budget)
     last_look h =
-        by r.found (λ f. rw f (tried_some (take n lens) (take n links) q budget at best least priced t.state h (found_one f)))
+        by r.found (λ f. rw f (tried_some ds links q budget at best least priced t.state h (found_one f)))
         (λ f. rw f (turn_ends f))
 
-    module _ (f : r.found ≡ true) where
-      pub turn_rated : Rated r.exponents links n × Bounded (λ d. get_or lens d 0) n
-      turn_rated =
-          (at_rated lens links n q t.slots t.ok priced r.exponents (found_one f) (turn_finds (found_one f)).1, lens_bounded lens links n q t.slots t.ok)
+    module _ (f : r.found ≡ true) (to : List ℕ) (u : to ≡ r.exponents ++ drop (length ds) at) where
+      reached : to ≡ padded (get_or every priced [])
+      reached =
+          let a = t.state.some in
+          let p : suc (priced - 1) ≡ priced = omega arith in
+          let l = found_one f in
+          let h = u ∙ ap (λ (x : List ℕ). x ++ drop (length ds) at) ((turn_finds l).1 ∙ ap (λ (i : ℕ). get_or every i []) (sym p)) in
+          next_slots ds links q t.ok caps t.capped (priced - 1) at spot t.state.now (omega arith) to h ∙ ap (λ (i : ℕ). padded (get_or every i [])) p
 
-      module _ (b : priced < budget) (c : ℕ) (g : c ≡ shares_cost (λ d. get_or lens d 0) (fare links r.exponents) n) where
-        costs : c ≡ cheapest_cost (take n lens) (take n links) (get_or every priced [])
-        costs = g ∙ at_cost lens links n q t.slots t.ok priced r.exponents (found_one f) (turn_finds (found_one f)).1
+      pub turn_rated : Rated (take (length ds) to) links (length ds) × Bounded (λ d. get_or ds d 0) (length ds)
+      turn_rated = (at_rated ds links q t.ok priced to (found_one f) reached, lens_bounded ds links q t.ok)
 
-        goes_on : {best' : List ℕ} {least' : ℕ} → Trying every (cheapest_cost (take n lens) (take n links)) budget r.exponents best' least' (priced + 1)
-            → Turn lens links n q caps budget r.exponents best' least' (priced + 1)
-        goes_on s = record { slots = t.slots; ok = t.ok; capped = t.capped; state = s }
+      module _ (b : priced < budget) (c : ℕ) (g : c ≡ shares_cost (λ d. get_or ds d 0) (fare links (take (length ds) to)) (length ds)) where
+        costs : c ≡ cheapest_cost ds links (get_or every priced [])
+        costs = g ∙ at_cost ds links q t.ok priced to (found_one f) reached
 
-        pub turn_takes : {best' : List ℕ} {least' : ℕ} → c < least → best' ≡ r.exponents → least' ≡ c → Turn lens links n q caps budget r.exponents best' least' (priced + 1)
+        goes_on : {best' : List ℕ} {least' : ℕ} → Trying every (cheapest_cost ds links) budget to best' least' (priced + 1)
+            → Turn ds links q caps budget to best' least' (priced + 1)
+        goes_on s = record { ok = t.ok; capped = t.capped; state = s }
+
+        pub turn_takes : {best' : List ℕ} {least' : ℕ} → c < least → best' ≡ to → least' ≡ c → Turn ds links q caps budget to best' least' (priced + 1)
         turn_takes h x y =
             goes_on
-            (rw (x, y)
-            (trying_takes every (cheapest_cost (take n lens) (take n links)) budget at best least priced t.state b (found_one f) r.exponents c (turn_finds (found_one f)).1 costs h))
+            (rw (x, y) (trying_takes every (cheapest_cost ds links) budget at best least priced t.state b (found_one f) to c reached costs h))
 
-        pub turn_passes : {best' : List ℕ} {least' : ℕ} → least ≤ c → best' ≡ best → least' ≡ least → Turn lens links n q caps budget r.exponents best' least' (priced + 1)
+        pub turn_passes : {best' : List ℕ} {least' : ℕ} → least ≤ c → best' ≡ best → least' ≡ least → Turn ds links q caps budget to best' least' (priced + 1)
         turn_passes h x y =
             goes_on
-            (rw (x, y)
-            (trying_passes every (cheapest_cost (take n lens) (take n links)) budget at best least priced t.state b (found_one f) r.exponents c (turn_finds (found_one f)).1 costs h))
+            (rw (x, y) (trying_passes every (cheapest_cost ds links) budget at best least priced t.state b (found_one f) to c reached costs h))

@@ -2,19 +2,19 @@
 use Prim.Native.Nat.{ℕ, zero, suc, ◌+◌, ◌-◌, ◌≤◌, ◌<◌, min}
 use mathlib.Core.Path.{◌≡◌, ◌∙◌, ap, ap₂, sym, refl}
 use mathlib.Core.Bool.{true, false, ◌&&◌}
-use mathlib.Core.List.{List, [], ◌∷◌, ◌++◌, append_assoc}
+use mathlib.Core.List.{List, [], ◌∷◌, ◌++◌, append_assoc, append-nil}
 use mathlib.Core.Option.{none, some}
 use native.Mathlib.Omega.{arith}
+use native.Mathlib.Nat.{le_refl}
 use native.Mathlib.Numerals.{add-one}
 use native.Mathlib.Decide.{dec_le}
 use lib.Dec.{ltb}
-use lib.ListN.{length, get_or, take, drop, set, take-append-drop, length-take}
-use lib.Seq.{take-suc-set, drop-set-lt, take-suc, set_at, length-take-le, take-take}
+use lib.ListN.{length, get_or, take, drop, set, drop_of_length-le}
+use lib.Seq.{take_all, drop-cons, take-suc, set_at, length-take-le}
 use borrow.Author.Tests.{lt-ltb, le-ltb}
 use Rattle.cube_spec.specs.Boxes.{pick}
 use Rattle.cube_spec.specs.Ways.{sum_list}
-use Rattle.plan_spec.proofs.Judging.{left_next, left_none}
-use Rattle.link_spec.specs.Stepping.{filled, raised_or, next_of, went, next_as}
+use Rattle.link_spec.specs.Stepping.{filled, raised_or, next_of, went, next_or}
 
 -- ---- filling
 
@@ -43,33 +43,32 @@ set_in l m j v h =
     rw (add-one j, take-suc l j 0 h)
     (ap (λ (x : List ℕ). set x j v) (append_assoc (take j l) (get_or l j 0 ∷ []) m) ∙ set_at (take j l) (get_or l j 0) m v j (length-take-le j l (omega arith)))
 
--- the slots from i on are filled, with what there is of q for them
-unfoldable pub Filling : List ℕ → List ℕ → ℕ → ℕ → ℕ → List ℕ → ℕ → Type 0
-Filling exps caps n q i out left = (out ≡ take i exps ++ (filled (drop i (take n caps)) (min q (sum_list (drop i (take n caps)))) ++ drop n exps)) × (left ≡ q - sum_list (drop i (take n caps)))
+-- the exponents from i on are filled, with what there is of q for them
+unfoldable pub Filling : List ℕ → List ℕ → ℕ → ℕ → List ℕ → ℕ → Type 0
+Filling exps caps q i out left = (out ≡ take i exps ++ filled (drop i caps) (min q (sum_list (drop i caps)))) × (left ≡ q - sum_list (drop i caps))
 
-module _ (exps caps : List ℕ) (n : ℕ) (slots : length exps ≡ 8) (places : length caps ≡ 8) (few : n ≤ 8) where
-  pub fill_start : (q : ℕ) → Filling exps caps n q n exps q
+module _ (exps caps : List ℕ) (each : length exps ≡ length caps) where
+  pub fill_start : (q : ℕ) → Filling exps caps q (length caps) exps q
   unfolding Filling
   fill_start q =
-      let z = left_none caps n places few n (omega arith) in
-      rw z (unfold filled sum_list in (sym (take-append-drop n exps), omega arith))
+      rw (drop_of_length-le caps (le_refl (length caps))) (unfold filled sum_list in (sym (append-nil (take (length caps) exps) ∙ take_all (length caps) exps (omega arith)), omega arith))
 
-  module _ (q i : ℕ) (out : List ℕ) (left k : ℕ) (h : i < n) (e : k ≡ min (get_or caps i 0) left) (f : Filling exps caps n q (i + 1) out left) where
-    cap : drop i (take n caps) ≡ get_or caps i 0 ∷ drop (i + 1) (take n caps)
-    cap = left_next caps n places few i h
+  module _ (q i : ℕ) (out : List ℕ) (left k : ℕ) (h : i < length caps) (e : k ≡ min (get_or caps i 0) left) (f : Filling exps caps q (i + 1) out left) where
+    cap : drop i caps ≡ get_or caps i 0 ∷ drop (i + 1) caps
+    cap = rw add-one (drop-cons caps i 0 h)
 
-    pub fill_turn : Filling exps caps n q i (set out i k) (left - k)
+    pub fill_turn : Filling exps caps q i (set out i k) (left - k)
     unfolding Filling sum_list
     fill_turn =
-        let r = filled (drop (i + 1) (take n caps)) (min q (sum_list (drop (i + 1) (take n caps)))) ++ drop n exps in
-        let m : k ≡ min (get_or caps i 0) (q - sum_list (drop (i + 1) (take n caps))) = e ∙ ap (λ (x : ℕ). min (get_or caps i 0) x) f.1 in (
-          rw (cap, f.0, filled_next (get_or caps i 0) (drop (i + 1) (take n caps)) q, ← m) (set_in exps r i k (omega arith)),
-          rw cap (taken_left (get_or caps i 0) (sum_list (drop (i + 1) (take n caps))) q left k f.1 e),
+        let r = filled (drop (i + 1) caps) (min q (sum_list (drop (i + 1) caps))) in
+        let m : k ≡ min (get_or caps i 0) (q - sum_list (drop (i + 1) caps)) = e ∙ ap (λ (x : ℕ). min (get_or caps i 0) x) f.1 in (
+          rw (cap, f.0, filled_next (get_or caps i 0) (drop (i + 1) caps) q, ← m) (set_in exps r i k (omega arith)),
+          rw cap (taken_left (get_or caps i 0) (sum_list (drop (i + 1) caps)) q left k f.1 e),
         )
 
-  pub fill_end : (q i from : ℕ) (out : List ℕ) (left : ℕ) → i ≡ from → Filling exps caps n q i out left → out ≡ take from exps ++ (filled (drop from (take n caps)) q ++ drop n exps)
+  pub fill_end : (q : ℕ) (out : List ℕ) (left : ℕ) → Filling exps caps q 0 out left → out ≡ filled caps q
   unfolding Filling
-  fill_end q i from out left e f = rw (← e, ← filled_most (drop i (take n caps)) q) f.0
+  fill_end q out left f = rw (← filled_most caps q) f.0
 
 -- ---- the next division
 
@@ -100,62 +99,45 @@ sum_drop (suc i) [] = omega arith
 sum_drop (suc i) (x ∷ l) = let q = sum_drop i l in omega arith
 
 -- the axes from i on have no next division, and `rest` between them
-unfoldable pub Stuck : List ℕ → List ℕ → ℕ → ℕ → ℕ → Type 0
-Stuck exps caps n i rest = (rest ≡ sum_list (drop i (take n exps))) × (next_of (drop i (take n caps)) (drop i (take n exps)) ≡ none)
+unfoldable pub Stuck : List ℕ → List ℕ → ℕ → ℕ → Type 0
+Stuck exps caps i rest = (rest ≡ sum_list (drop i exps)) × (next_of (drop i caps) (drop i exps) ≡ none)
 
-module _ (exps caps : List ℕ) (n : ℕ) (slots : length exps ≡ 8) (places : length caps ≡ 8) (few : n ≤ 8) where
-  pub stuck_start : Stuck exps caps n n 0
+module _ (exps caps : List ℕ) (each : length exps ≡ length caps) where
+  pub stuck_start : Stuck exps caps (length caps) 0
   unfolding Stuck next_of
-  stuck_start = rw (left_none caps n places few n (omega arith), left_none exps n slots few n (omega arith)) (unfold sum_list in (refl, refl))
+  stuck_start =
+      rw (drop_of_length-le caps (le_refl (length caps)), drop_of_length-le exps (let h : length exps ≤ length caps = omega arith in h)) (unfold sum_list in (refl, refl))
 
-  module _ (i rest : ℕ) (h : i < n) (s : Stuck exps caps n (i + 1) rest) where
-    caps_cut : drop i (take n caps) ≡ get_or caps i 0 ∷ drop (i + 1) (take n caps)
-    caps_cut = left_next caps n places few i h
+  module _ (i rest : ℕ) (h : i < length caps) (s : Stuck exps caps (i + 1) rest) where
+    caps_cut : drop i caps ≡ get_or caps i 0 ∷ drop (i + 1) caps
+    caps_cut = rw add-one (drop-cons caps i 0 h)
 
-    exps_cut : drop i (take n exps) ≡ get_or exps i 0 ∷ drop (i + 1) (take n exps)
-    exps_cut = left_next exps n slots few i h
+    exps_cut : drop i exps ≡ get_or exps i 0 ∷ drop (i + 1) exps
+    exps_cut = rw add-one (drop-cons exps i 0 (omega arith))
 
-    pub stuck_next : (0 < rest → get_or exps i 0 < get_or caps i 0 → ⊥) → Stuck exps caps n i (rest + get_or exps i 0)
+    pub stuck_next : (0 < rest → get_or exps i 0 < get_or caps i 0 → ⊥) → Stuck exps caps i (rest + get_or exps i 0)
     unfolding Stuck
     stuck_next o =
         let e = s.0 in
-        rw (caps_cut, exps_cut) (unfold sum_list in (omega arith, next_miss (get_or caps i 0) (drop (i + 1) (take n caps)) (get_or exps i 0) (drop (i + 1) (take n exps)) s.1 (λ p l. o (omega arith) l)))
+        rw (caps_cut, exps_cut) (unfold sum_list in (omega arith, next_miss (get_or caps i 0) (drop (i + 1) caps) (get_or exps i 0) (drop (i + 1) exps) s.1 (λ p l. o (omega arith) l)))
 
-    pub stuck_sum : rest + get_or exps i 0 ≤ sum_list (take n exps)
+    pub stuck_sum : rest + get_or exps i 0 ≤ sum_list exps
     unfolding Stuck
     stuck_sum =
         let e = s.0 in
-        let q = sum_drop i (take n exps) in
-        let c : sum_list (drop i (take n exps)) ≡ get_or exps i 0 + sum_list (drop (i + 1) (take n exps)) = (rw exps_cut (unfold sum_list in refl)) in
+        let q = sum_drop i exps in
+        let c : sum_list (drop i exps) ≡ get_or exps i 0 + sum_list (drop (i + 1) exps) = (rw exps_cut (unfold sum_list in refl)) in
         omega arith
 
     pub raised_next : 0 < rest → get_or exps i 0 < get_or caps i 0
-        → next_as n exps (next_of (take n caps) (take n exps))
-        ≡ went true (take (i + 1) (set exps i (get_or exps i 0 + 1)) ++ (filled (drop (i + 1) (take n caps)) (rest - 1) ++ drop n (set exps i (get_or exps i 0 + 1))))
-    unfolding Stuck next_as
+        → next_or exps (next_of caps exps) ≡ went true (take i exps ++ ((get_or exps i 0 + 1) ∷ filled (drop (i + 1) caps) (rest - 1)))
+    unfolding Stuck next_or
     raised_next p l =
         let e = s.0 in
-        let hit : next_of (drop i (take n caps)) (drop i (take n exps)) ≡ some (suc (get_or exps i 0) ∷ filled (drop (i + 1) (take n caps)) (rest - 1)) =
-        (rw (caps_cut, exps_cut, e)
-        (next_hit (get_or caps i 0) (drop (i + 1) (take n caps)) (get_or exps i 0) (drop (i + 1) (take n exps)) s.1 (omega arith) l)) in
-        let a = length-take n caps in
-        let b = length-take n exps in
-        let all = next_front i (take n caps) (take n exps) _ (omega arith) (omega arith) hit in
-        let raised = take-suc-set exps i (get_or exps i 0 + 1) (omega arith) in
-        let spare = drop-set-lt n exps i (get_or exps i 0 + 1) h in
-        rw (all, add-one i, raised, spare, take-take i n exps (omega arith), ← add-one (get_or exps i 0))
-        (ap (λ (x : List ℕ). went true x)
-        (append_assoc (take i exps) _ (drop n exps) ∙ sym (append_assoc (take i exps) ((get_or exps i 0 + 1) ∷ []) _)))
+        let hit : next_of (drop i caps) (drop i exps) ≡ some (suc (get_or exps i 0) ∷ filled (drop (i + 1) caps) (rest - 1)) =
+        (rw (caps_cut, exps_cut, e) (next_hit (get_or caps i 0) (drop (i + 1) caps) (get_or exps i 0) (drop (i + 1) exps) s.1 (omega arith) l)) in
+        rw (next_front i caps exps _ (omega arith) (omega arith) hit, add-one (get_or exps i 0)) refl
 
-  pub stuck_end : (i rest : ℕ) → i ≡ 0 → Stuck exps caps n i rest → next_as n exps (next_of (take n caps) (take n exps)) ≡ went false exps
-  unfolding Stuck next_as
-  stuck_end i rest e s = let z : next_of (take n caps) (take n exps) ≡ none = (rw e at s).1 in rw z
-
--- ---- turns from the last axis down
-
-pub before_last : (P : ℕ → Type 0) {from i : ℕ} → from < i → P i → P (i - 1 + 1)
-before_last P {from} {i} h p = let e : i - 1 + 1 ≡ i = omega arith in rw e p
-
--- a turn that raises nothing: there is nothing to take, or no room
-pub kept_on : {rest k c : ℕ} → (0 < rest → c ≤ k) → 0 < rest → k < c → ⊥
-kept_on h p l = let q = h p in omega arith
+  pub stuck_end : (rest : ℕ) → Stuck exps caps 0 rest → next_or exps (next_of caps exps) ≡ went false exps
+  unfolding Stuck next_or
+  stuck_end rest s = rw s.1

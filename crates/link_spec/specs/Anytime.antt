@@ -8,7 +8,7 @@ use Rattle.plan_spec.specs.Rule.{power_used, plan_within}
 use Rattle.link_spec.specs.declared.types.Searched.{Searched}
 use Rattle.link_spec.specs.Divisions.{in_use, Listing}
 use Rattle.link_spec.specs.Costs.{link_of, weighted_cost, cheapest_cost}
-use Rattle.link_spec.specs.Search.{smallest}
+use Rattle.link_spec.specs.Search.{smallest, search_refusal}
 
 -- "the first cheapest": b stands in l at a place where all before cost more and none costs less
 pub record First (cost : List ℕ → ℕ) (l : List (List ℕ)) (b : List ℕ) : Type 0 where
@@ -19,7 +19,7 @@ pub record First (cost : List ℕ → ℕ) (l : List (List ℕ)) (b : List ℕ) 
   pub least : (j : ℕ) → j < length l → cost b ≤ cost (get_or l j [])
 
 pub record Anytime (ds : List ℕ) (p : ℕ) (links : List ℕ) (budget : ℕ) (r : Searched) : Type 0 where
-  pub accepted : r.refusal ≡ 0
+  pub accepted : search_refusal ds p links budget ≡ 0
   -- "Price divisions of the boards in use (7/12) in ascending order of their exponents, read in axis order"
   pub listed : Listing ds (power_used ds p) (in_use ds p)
   -- "each with the cheapest parent for every choice": no parents cost less, and some cost just that

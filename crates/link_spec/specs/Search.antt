@@ -2,7 +2,7 @@
 use Rattle.std.specs.Prelude.{ℕ, zero, suc, ◌-◌, ◌*◌, min, Bool, ◌||◌, not, List, [], ◌∷◌, ◌++◌, eqb, ltb, leb, length, take}
 use Rattle.cube_spec.specs.Limits.{padded}
 use Rattle.cube_spec.specs.Boxes.{pick}
-use Rattle.cube_spec.specs.Checks.{Check, check, first}
+use Rattle.cube_spec.specs.Checks.{Check, check, first, Reply, answered}
 use Rattle.plan_spec.specs.Plans as Plans
 use Rattle.plan_spec.specs.Rule.{plan_within}
 use Rattle.plan_spec.specs.Refusals.{some, planning_checks}
@@ -66,11 +66,10 @@ search_checks ds p links budget = planning_checks ds p ++ (check 18 (eqb budget 
 unfoldable pub search_refusal : List ℕ → ℕ → List ℕ → ℕ → ℕ
 search_refusal ds p links budget = first (search_checks ds p links budget)
 
--- "Each gives its number alone", so nothing but zeros stands beside a refusal
-unfoldable pub searched_as : ℕ → Found → Searched
-searched_as zero f = record { refusal = 0; exponents = padded f.exponents; cost = f.cost; distance = f.distance; priced = f.priced }
-searched_as (suc n) f = record { refusal = suc n; exponents = padded []; cost = 0; distance = 0; priced = 0 }
+-- what is found, its exponents in slots
+unfoldable pub searched_of : Found → Searched
+searched_of f = record { exponents = padded f.exponents; cost = f.cost; distance = f.distance; priced = f.priced }
 
--- what the entry answers
-unfoldable pub searching : List ℕ → ℕ → List ℕ → ℕ → Searched
-searching ds p links budget = searched_as (search_refusal ds p links budget) (search ds p links budget)
+-- what the entry answers: "Each gives its number alone"
+unfoldable pub searching : List ℕ → ℕ → List ℕ → ℕ → Reply Searched
+searching ds p links budget = answered (search_refusal ds p links budget) (searched_of (search ds p links budget))

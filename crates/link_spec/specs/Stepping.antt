@@ -1,5 +1,5 @@
 -- From one division to the next, as the code goes. `caps` are the largest exponents, floor(log2 length), in axis order.
-use Rattle.std.specs.Prelude.{ℕ, suc, ◌-◌, min, Bool, true, false, ◌&&◌, List, [], ◌∷◌, ◌++◌, ltb, drop}
+use Rattle.std.specs.Prelude.{ℕ, suc, ◌-◌, min, Bool, true, false, ◌&&◌, List, [], ◌∷◌, ltb}
 use Rattle.std.proofs.Math.Option.{Option, none, some}
 use Rattle.cube_spec.specs.Boxes.{pick}
 use Rattle.cube_spec.specs.Ways.{sum_list, log2}
@@ -23,14 +23,14 @@ next_of [] ks = none
 next_of (c ∷ cs) [] = none
 next_of (c ∷ cs) (k ∷ ks) = raised_or c cs k ks (next_of cs ks)
 
--- the same in slots, of which the first n count: the next division, or none and the slots as they are
+-- the same in place: the next division, or none and the exponents as they are
 pub record Next : Type 0 where
   pub found : Bool
   pub exponents : List ℕ
 
 abbrev pub went : Bool → List ℕ → Next
-went found slots = record { found = found; exponents = slots }
+went found now = record { found = found; exponents = now }
 
-unfoldable pub next_as : ℕ → List ℕ → Option (List ℕ) → Next
-next_as n slots none = went false slots
-next_as n slots (some r) = went true (r ++ drop n slots)
+unfoldable pub next_or : List ℕ → Option (List ℕ) → Next
+next_or now none = went false now
+next_or now (some r) = went true r

@@ -1,6 +1,6 @@
--- The search as the code goes, over slots of which the first n count.
-use Rattle.std.specs.Prelude.{ℕ, ◌≤◌, ◌<◌, min, List, leb, length, get_or, take}
-use Rattle.cube_spec.specs.Limits.{axis_limit, power_limit, padded}
+-- The search as the code goes.
+use Rattle.std.specs.Prelude.{ℕ, ◌≡◌, ◌≤◌, ◌<◌, min, List, leb, length, get_or, take}
+use Rattle.cube_spec.specs.Limits.{power_limit, padded}
 use Rattle.cube_spec.specs.Ways.{room}
 use Rattle.plan_spec.specs.Accepted.{LengthsAccepted}
 use Rattle.link_spec.specs.declared.types.Tried.{Tried}
@@ -16,9 +16,9 @@ tried ds q links budget =
     record { exponents = padded best; cost = cheapest_cost ds links best; priced = min budget (length all); all = leb (length all) budget }
 
 -- what the search is given
-pub record Searchable (lens links : List ℕ) (n q : ℕ) : Type 0 where
-  pub few : n ≤ axis_limit
-  pub lengths : LengthsAccepted (take n lens)
+pub record Searchable (ds links : List ℕ) (q : ℕ) : Type 0 where
+  pub lengths : LengthsAccepted ds
   pub boards : q ≤ power_limit
-  pub enough : q ≤ room (take n lens)
-  pub low : (d : ℕ) → d < n → get_or links d 0 ≤ link_limit
+  pub enough : q ≤ room ds
+  pub each : length links ≡ length ds
+  pub low : (d : ℕ) → d < length ds → get_or links d 0 ≤ link_limit

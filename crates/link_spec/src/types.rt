@@ -1,8 +1,7 @@
-// The answer of the search: refusal 0 with the exponents by axis number, their cost, a distance, and how many divisions were priced; or the refusal
-// with nothing but zeros. No division, with any parents, costs less than the cost less the distance.
-#[derive(Clone, Copy)]
+// The answer of the search: the exponents by axis number, their cost, a distance, and how many divisions were priced. No division, with any parents,
+// costs less than the cost less the distance.
+#[derive(Clone, Copy, Debug, PartialEq, Eq)]
 pub struct Searched {
-    pub refusal: u8,
     pub exponents: [u8; 8],
     pub cost: u64,
     pub distance: u64,
@@ -10,7 +9,7 @@ pub struct Searched {
 }
 
 // What a budget finds: the first cheapest division, its cost, how many were priced, and whether these were all.
-#[derive(Clone, Copy)]
+#[derive(Clone, Copy, Debug, PartialEq, Eq)]
 pub struct Tried {
     pub exponents: [u8; 8],
     pub cost: u64,
