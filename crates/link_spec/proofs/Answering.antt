@@ -1,20 +1,17 @@
 -- What the search answers, in the code's terms.
-use Prim.Native.Nat.{ℕ, zero, suc, ◌+◌, ◌-◌, ◌*◌, ◌≤◌, ◌<◌, min}
-use mathlib.Core.Path.{◌≡◌, ◌∙◌, ap, sym, refl}
+use Prim.Native.Nat.{ℕ, ◌+◌, ◌-◌, ◌*◌, ◌≤◌, ◌<◌, min}
+use mathlib.Core.Path.{◌≡◌, ◌∙◌, ap, refl}
 use mathlib.Core.Bool.{true, false}
 use mathlib.Core.List.{List, [], ◌∷◌, ◌++◌}
 use native.Mathlib.Omega.{arith}
 use native.Mathlib.Nat.{pos_of_ne-zero}
 use native.Mathlib.Numerals.{add-one}
-use lib.ListN.{length, get_or, take, replicate, length-take}
+use lib.ListN.{length, get_or, take, length-take}
 use lib.Seq.{take-suc}
-use Rattle.cube_spec.specs.Limits.{axis_limit, padded}
+use Rattle.cube_spec.specs.Limits.{axis_limit}
 use Rattle.cube_spec.specs.Boxes.{pick}
 use Rattle.cube_spec.specs.Checks.{gives, refuses}
 use Rattle.cube_spec.proofs.Answered.{given, refused}
-use Rattle.cube_spec.proofs.Slots.{padded_at, padded_take}
-use Rattle.plan_spec.specs.declared.types.Plan.{Plan}
-use Rattle.plan_spec.specs.declared.types.Prices.{Prices}
 use Rattle.plan_spec.specs.declared.types.Planned.{Planned}
 use Rattle.plan_spec.specs.Plans.{moved, slotted}
 use Rattle.plan_spec.specs.Rule.{plan_of, power_used, plan_within, idle_boards}
@@ -22,9 +19,8 @@ use Rattle.plan_spec.specs.Refusals.{planning_refusal}
 use Rattle.plan_spec.specs.Answers.{prices_of, planned_of, planning}
 use Rattle.plan_spec.proofs.Accepting.{planning_accepted, planning_accept}
 use Rattle.plan_spec.proofs.Answering.{given_planned, refused_planned}
-use Rattle.link_spec.specs.declared.types.Searched.{Searched}
 use Rattle.link_spec.specs.declared.types.Tried.{Tried}
-use Rattle.link_spec.specs.Search.{Found, smallest, bad_links, search, search_refusal, searched_of, searching}
+use Rattle.link_spec.specs.Search.{smallest, bad_links, search, search_refusal, searched_of, searching}
 use Rattle.link_spec.specs.Accepted.{SearchAccepted}
 use Rattle.link_spec.specs.Trying.{tried, Searchable}
 use Rattle.link_spec.proofs.Distance.{floor_answer}

@@ -1,5 +1,5 @@
 -- WHAT THE SEARCH PROMISES, FOR EVERY REQUEST THAT IS NOT REFUSED
-use Prim.Native.Nat.{ℕ, zero, suc, ◌*◌, ◌≤◌, ◌<◌}
+use Prim.Native.Nat.{ℕ, ◌*◌, ◌≤◌, ◌<◌}
 use mathlib.Core.Path.{◌≡◌, sym, ◌∙◌, refl, ap, subst}
 use mathlib.Core.List.{List}
 use lib.ListN.{length}
@@ -11,7 +11,7 @@ use Rattle.plan_spec.specs.Rule.{power_used, plan_within}
 use Rattle.link_spec.specs.declared.types.Searched.{Searched}
 use Rattle.link_spec.specs.Divisions.{in_use}
 use Rattle.link_spec.specs.Costs.{link_of, fare, cheapest_cost}
-use Rattle.link_spec.specs.Search.{Found, search, search_refusal, searched_of, searching}
+use Rattle.link_spec.specs.Search.{search, search_refusal, searched_of, searching}
 use Rattle.link_spec.specs.Accepted.{SearchAccepted}
 use Rattle.link_spec.specs.Anytime.{Anytime}
 use Rattle.link_spec.proofs.Winners.{cheapest_way, cheapest_least, cheapest_attained}

@@ -1,6 +1,6 @@
 -- What the code that tries divisions one after the other asks, in plain variables.
-use Prim.Native.Nat.{ℕ, zero, suc, ◌+◌, ◌-◌, ◌*◌, ◌≤◌, ◌<◌, min}
-use mathlib.Core.Path.{◌≡◌, ◌∙◌, ap, ap₂, sym, refl}
+use Prim.Native.Nat.{ℕ, zero, suc, ◌+◌, ◌-◌, ◌≤◌, ◌<◌, min}
+use mathlib.Core.Path.{◌≡◌, ◌∙◌, ap, sym, refl}
 use mathlib.Core.Bool.{true, false, not}
 use mathlib.Core.List.{List, [], ◌∷◌, ◌++◌}
 use mathlib.Core.Option.{none, some}
@@ -9,20 +9,17 @@ use native.Mathlib.Numerals.{add-one}
 use native.Mathlib.Decide.{dec_le}
 use lib.Dec.{ltb}
 use lib.ListN.{length, get_or, take, drop, replicate, length-append, length-drop, length-take, get_or-replicate, get_or-append, get_or-eq_default, drop_of_length-le}
-use lib.Seq.{take_all, take-suc, drop-cons, get_or-append-add, get_or-drop, get_or-take}
+use lib.Seq.{take_all, take-suc, drop-cons, get_or-append-add, get_or-drop}
 use borrow.Author.Tests.{le-leb, lt-leb, lt-ltb, le-ltb}
-use Rattle.cube_spec.specs.Limits.{axis_limit, point_limit, power_limit, padded}
-use Rattle.cube_spec.specs.Boxes.{pick, table, product}
-use Rattle.cube_spec.specs.Choices.{length_of, points}
-use Rattle.cube_spec.specs.Tree.{sent}
+use Rattle.cube_spec.specs.Limits.{axis_limit, power_limit, padded}
+use Rattle.cube_spec.specs.Boxes.{pick, table}
+use Rattle.cube_spec.specs.Choices.{points}
 use Rattle.cube_spec.specs.Ways.{sum_list, log2}
-use Rattle.cube_spec.proofs.Boxing.{product_cong}
 use Rattle.cube_spec.proofs.Sums.{by}
 use Rattle.cube_spec.proofs.Naturals.{clash}
 use Rattle.cube_spec.proofs.Tables.{table_of}
 use Rattle.cube_spec.proofs.Slots.{padded_length, padded_at, padded_of, padded_take}
 use Rattle.plan_spec.specs.Choosing.{Bounded}
-use Rattle.plan_spec.proofs.Judging.{first_length}
 use Rattle.plan_spec.proofs.PricingLaws.{sum_member}
 use Rattle.link_spec.specs.declared.types.Tried.{Tried}
 use Rattle.link_spec.specs.Divisions.{divisions}
@@ -33,7 +30,6 @@ use Rattle.link_spec.specs.Stepping.{caps_of, filled, next_of, Next, went, next_
 use Rattle.link_spec.specs.Trying.{tried, Searchable}
 use Rattle.link_spec.proofs.Listing.{at_in, in_divides, Divides}
 use Rattle.link_spec.proofs.Chain.{head_or, Follows, divisions_chain}
-use Rattle.link_spec.proofs.Pricing.{shares_cong}
 use Rattle.link_spec.proofs.Shares.{cheapest_shares}
 
 -- ---- slots

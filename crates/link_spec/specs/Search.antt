@@ -1,5 +1,5 @@
 -- The search: what a budget buys, and the entry's answer.
-use Rattle.std.specs.Prelude.{ℕ, zero, suc, ◌-◌, ◌*◌, min, Bool, ◌||◌, not, List, [], ◌∷◌, ◌++◌, eqb, ltb, leb, length, take}
+use Rattle.std.specs.Prelude.{ℕ, ◌-◌, ◌*◌, min, Bool, ◌||◌, not, List, [], ◌∷◌, ◌++◌, eqb, ltb, leb, length, take}
 use Rattle.cube_spec.specs.Limits.{padded}
 use Rattle.cube_spec.specs.Boxes.{pick}
 use Rattle.cube_spec.specs.Checks.{Check, check, first, Reply, answered}
