@@ -1,4 +1,4 @@
-ghost use Rattle.std.specs.Prelude.{◌≡◌, ◌≤◌, ◌<◌, get_or, take};
+ghost use Rattle.std.specs.Prelude.{◌≡◌, ◌≤◌, length};
 ghost use Rattle.cube_spec.specs.Limits.{axis_limit, padded};
 ghost use Rattle.cube_spec.specs.Ways.{log2};
 ghost use Rattle.link_spec.specs.Stepping.{caps_of};
@@ -17,32 +17,30 @@ fn cap_of(length: u32) -> u8
 }
 
 // That of each axis.
-fn caps_of(lens: [u32; 8], n: usize) -> [u8; 8]
-    requires { n ≤ axis_limit }
-    ensures { result ≡ padded (caps_of (take n lens)) }
+fn caps_of(lens: &[u32]) -> [u8; 8]
+    requires { length lens.now ≤ axis_limit }
+    ensures { result ≡ padded (caps_of lens.now) }
 {
     let mut out = [0u8; 8];
-    let mut i: usize = 0;
-    while i < n {
+    for i in 0..lens.len() {
         out[i] = cap_of(lens[i]);
-        i += 1;
     }
     out
 }
 
 // The first cheapest of the first so many divisions.
-pub fn try_divisions(lens: [u32; 8], links: [u32; 8], n: usize, q: u8, budget: u64) -> Tried
-    requires { Searchable lens links n q × (1 ≤ budget) }
-    ensures { result ≡ tried (take n lens) q (take n links) budget }
+pub fn try_divisions(lens: &[u32], links: &[u32], q: u8, budget: u64) -> Tried
+    requires { Searchable lens.now links.now q × (1 ≤ budget) }
+    ensures { result ≡ tried lens.now q links.now budget }
 {
-    let caps = caps_of(lens, n);
+    let n = lens.len();
+    let caps = caps_of(lens);
     let mut at = [0u8; 8];
-    fill(&mut at, &caps, n, 0, q);
+    fill(&mut at[..n], &caps[..n], q);
     let mut best = at;
-    let mut least = division_cost(&lens, &links, &at, n);
-    let mut priced: u64 = 1;
-    while priced < budget {
-        if !next(&mut at, &caps, n) {
+    let mut least = division_cost(lens, links, &at[..n]);
+    for priced in 1..budget {
+        if !next(&mut at[..n], &caps[..n]) {
             return Tried {
                 exponents: best,
                 cost: least,
@@ -50,18 +48,17 @@ pub fn try_divisions(lens: [u32; 8], links: [u32; 8], n: usize, q: u8, budget: u
                 all: true,
             };
         }
-        let cost = division_cost(&lens, &links, &at, n);
+        let cost = division_cost(lens, links, &at[..n]);
         if cost < least {
             best = at;
             least = cost;
         }
-        priced += 1;
     }
-    let more = next(&mut at, &caps, n);
+    let more = next(&mut at[..n], &caps[..n]);
     Tried {
         exponents: best,
         cost: least,
-        priced,
+        priced: budget,
         all: !more,
     }
 }

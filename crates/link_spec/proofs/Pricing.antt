@@ -1,14 +1,14 @@
 -- What the code that prices a division asks, in plain variables.
-use Prim.Native.Nat.{ℕ, ◌+◌, ◌*◌, ◌^◌, ◌≤◌, ◌<◌}
+use Prim.Native.Nat.{ℕ, suc, ◌+◌, ◌*◌, ◌^◌, ◌≤◌, ◌<◌}
 use mathlib.Core.Path.{◌≡◌, ◌∙◌, ap, ap₂, sym, refl}
-use mathlib.Core.Bool.{Bool, true, false}
+use mathlib.Core.Bool.{Bool, true, false, ◌&&◌, ◌||◌}
 use mathlib.Core.List.{List}
 use native.Mathlib.Omega.{arith}
 use native.Mathlib.Decide.{dec_le}
 use native.Mathlib.Nat.{zero-mul, mul-one, mul-le-mul, zero-add, le_trans}
-use lib.Dec.{eqb, ltb}
+use lib.Dec.{eqb, ltb, leb}
 use lib.ListN.{get_or}
-use borrow.Author.Tests.{eq-eqb, ne_eqb, lt-ltb, le-ltb}
+use borrow.Author.Tests.{eq-eqb, ne_eqb, lt-ltb, le-ltb, le-leb, lt-leb}
 use Rattle.cube_spec.specs.Limits.{axis_limit, power_limit, padded}
 use Rattle.cube_spec.specs.Boxes.{pick, sum_n, table, product}
 use Rattle.cube_spec.specs.Tree.{sent}
@@ -19,7 +19,6 @@ use Rattle.cube_spec.proofs.Slots.{padded_at, table_here}
 use Rattle.plan_spec.specs.Choosing.{Bounded}
 use Rattle.plan_spec.proofs.PricingLaws.{sent_small}
 use Rattle.plan_spec.proofs.Bounding.{front_small, more_small}
-use Rattle.plan_spec.proofs.Judging.{or_true}
 use Rattle.link_spec.specs.Costs.{fare}
 use Rattle.link_spec.specs.Search.{link_limit}
 use Rattle.link_spec.specs.Shares.{goes_before, factor_of, factor, share, shares_cost, fare_limit, Priceable, Rated}
@@ -47,29 +46,25 @@ module _ (len a b j i : ℕ) where
   unfolding factor_of
   factor_self e = rw (eq-eqb j i e)
 
-  -- an axis before i is kept at a fare no higher, one after i at a lower one
-  pub factor_before : j < i → a ≤ b → len ≡ factor_of len a b j i
-  factor_before l h = go (dec_le b a)
-    where
-      go : Dec (b ≤ a) → len ≡ factor_of len a b j i
-      go (yes k) = unfold factor_of goes_before in (rw (ne_eqb j i (λ e. omega arith), eq-eqb a b (omega arith), lt-ltb j i l) (sym (ap (λ t. pick t len (len + 1)) (or_true (ltb a b)))))
-      go (no k) = unfold factor_of goes_before in (rw (ne_eqb j i (λ e. omega arith), lt-ltb a b (omega arith)))
-
-  pub factor_lower : i < j → a < b → len ≡ factor_of len a b j i
+  -- an axis before i is kept at a fare no higher, one after i at a lower one, and else kept or summed
+  pub factor_before : j < i → pick (leb a b) len (len + 1) ≡ factor_of len a b j i
   unfolding factor_of goes_before
-  factor_lower l h = rw (ne_eqb j i (λ e. omega arith), lt-ltb a b h)
-
-  -- and else kept or summed
-  pub factor_dearer : j < i → b < a → len + 1 ≡ factor_of len a b j i
-  unfolding factor_of goes_before
-  factor_dearer l h = rw (ne_eqb j i (λ e. omega arith), le-ltb a b (omega arith), ne_eqb a b (λ e. omega arith))
-
-  pub factor_after : i < j → b ≤ a → len + 1 ≡ factor_of len a b j i
-  factor_after l h = go (dec_le a b)
+  factor_before l = rw (ne_eqb j i (λ e. omega arith), lt-ltb j i l) (go (dec_le (suc a) b) (dec_le a b))
     where
-      go : Dec (a ≤ b) → len + 1 ≡ factor_of len a b j i
-      go (yes k) = unfold factor_of goes_before in (rw (ne_eqb j i (λ e. omega arith), le-ltb a b h, eq-eqb a b (omega arith), le-ltb j i (omega arith)))
-      go (no k) = unfold factor_of goes_before in (rw (ne_eqb j i (λ e. omega arith), le-ltb a b h, ne_eqb a b (λ e. omega arith)))
+      go : Dec (a < b) → Dec (a ≤ b) → pick (leb a b) len (len + 1) ≡ pick (ltb a b || (eqb a b && true)) len (len + 1)
+      go (yes h) e = rw (lt-ltb a b h, le-leb a b (omega arith)) refl
+      go (no h) (yes e) = rw (le-ltb a b (omega arith), le-leb a b e, eq-eqb a b (omega arith)) refl
+      go (no h) (no e) = rw (le-ltb a b (omega arith), lt-leb a b (omega arith), ne_eqb a b (λ q. omega arith)) refl
+
+  pub factor_after : i < j → pick (ltb a b) len (len + 1) ≡ factor_of len a b j i
+  unfolding factor_of goes_before
+  factor_after l = rw (ne_eqb j i (λ e. omega arith), le-ltb j i (omega arith)) (go (eqb a b) (ltb a b))
+    where
+      go : (e t : Bool) → pick t len (len + 1) ≡ pick (t || (e && false)) len (len + 1)
+      go true true = refl
+      go true false = refl
+      go false true = refl
+      go false false = refl
 
   factor_le : 0 < len → factor_of len a b j i ≤ len + 1
   unfolding factor_of

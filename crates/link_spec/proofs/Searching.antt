@@ -161,6 +161,9 @@ module _ (ds links : List ℕ) (q : ℕ) (ok : Searchable ds links q) where
     at_takes : take (length ds) at ≡ get_or all i []
     at_takes = rw e (padded_take (get_or all i []) (length ds) (each_at i h) few)
 
+    pub at_length : length (take (length ds) at) ≡ length ds
+    at_length = rw at_takes (each_at i h)
+
     pub at_sums : sum_list (take (length ds) at) ≤ power_limit
     at_sums =
         let d = (divides_at i h).sums in
@@ -183,6 +186,9 @@ module _ (ds links : List ℕ) (q : ℕ) (ok : Searchable ds links q) where
   module _ (caps : List ℕ) (capped : caps ≡ padded (caps_of ds)) where
     caps_are : take (length ds) caps ≡ caps_of ds
     caps_are = rw capped (padded_take (caps_of ds) (length ds) (caps_length ds) few)
+
+    pub caps_each : length (take (length ds) caps) ≡ length ds
+    caps_each = rw caps_are (caps_length ds)
 
     -- the first division, filled into empty slots
     pub start : (at : List ℕ) → at ≡ filled (take (length ds) caps) q ++ drop (length ds) (replicate 8 0) → at ≡ padded (get_or all 0 [])
@@ -279,8 +285,8 @@ module _ {ds links : List ℕ} {q : ℕ} (ok : Searchable ds links q) {caps : Li
   begun : at ≡ padded (get_or (divisions ds q) 0 [])
   begun = start ds links q ok caps capped at e
 
-  pub starts_rated : Rated (take (length ds) at) links (length ds) × Bounded (λ d. get_or ds d 0) (length ds)
-  starts_rated = (at_rated ds links q ok 0 at (there ds links q ok) begun, lens_bounded ds links q ok)
+  pub starts_rated : (length (take (length ds) at) ≡ length ds) × Rated (take (length ds) at) links (length ds) × Bounded (λ d. get_or ds d 0) (length ds)
+  starts_rated = let t = there ds links q ok in (at_length ds links q ok 0 at t begun, at_rated ds links q ok 0 at t begun, lens_bounded ds links q ok)
 
   pub starts : {budget least : ℕ} → 1 ≤ budget → least ≡ shares_cost (λ d. get_or ds d 0) (fare links (take (length ds) at)) (length ds)
       → Turn ds links q caps budget at at least 1
@@ -300,8 +306,8 @@ module _ {ds links : List ℕ} {q : ℕ} {caps : List ℕ} {budget : ℕ} {at be
       let b = t.state.there in
       omega arith
 
-  pub turn_slots : (length at ≡ axis_limit) × (length caps ≡ axis_limit)
-  turn_slots = (rw t.state.now (padded_length (get_or every (priced - 1) [])), rw t.capped (padded_length (caps_of ds)))
+  pub turn_places : length (take (length ds) at) ≡ length (take (length ds) caps)
+  turn_places = at_length ds links q t.ok (priced - 1) at spot t.state.now ∙ sym (caps_each ds links q t.ok caps t.capped)
 
   pub turn_sums : sum_list (take (length ds) at) ≤ power_limit
   turn_sums = at_sums ds links q t.ok (priced - 1) at spot t.state.now
@@ -338,9 +344,10 @@ module _ {ds links : List ℕ} {q : ℕ} {caps : List ℕ} {budget : ℕ} {at be
     pub turn_ends : r.found ≡ false → ◌≡◌ {A = Tried} (record { exponents = best; cost = least; priced = priced; all = true }) (tried ds q links budget)
     turn_ends f = tried_all ds links q budget at best least priced t.state (found_none f)
 
-    pub last_look : budget ≤ priced → ◌≡◌ {A = Tried} (record { exponents = best; cost = least; priced = priced; all = not r.found }) (tried ds q links budget)
-    last_look h =
-        by r.found (λ f. rw f (tried_some ds links q budget at best least priced t.state h (found_one f)))
+    pub last_look : priced ≡ budget → ◌≡◌ {A = Tried} (record { exponents = best; cost = least; priced = budget; all = not r.found }) (tried ds q links budget)
+    last_look e =
+        ap (λ (x : ℕ). record { exponents = best; cost = least; priced = x; all = not r.found }) (sym e)
+        ∙ by r.found (λ f. rw f (tried_some ds links q budget at best least priced t.state (let h : budget ≤ priced = omega arith in h) (found_one f)))
         (λ f. rw f (turn_ends f))
 
     module _ (f : r.found ≡ true) (to : List ℕ) (u : to ≡ r.exponents ++ drop (length ds) at) where
@@ -352,8 +359,9 @@ module _ {ds links : List ℕ} {q : ℕ} {caps : List ℕ} {budget : ℕ} {at be
           let h = u ∙ ap (λ (x : List ℕ). x ++ drop (length ds) at) ((turn_finds l).1 ∙ ap (λ (i : ℕ). get_or every i []) (sym p)) in
           next_slots ds links q t.ok caps t.capped (priced - 1) at spot t.state.now (omega arith) to h ∙ ap (λ (i : ℕ). padded (get_or every i [])) p
 
-      pub turn_rated : Rated (take (length ds) to) links (length ds) × Bounded (λ d. get_or ds d 0) (length ds)
-      turn_rated = (at_rated ds links q t.ok priced to (found_one f) reached, lens_bounded ds links q t.ok)
+      pub turn_rated : (length (take (length ds) to) ≡ length ds) × Rated (take (length ds) to) links (length ds) × Bounded (λ d. get_or ds d 0) (length ds)
+      turn_rated =
+          (at_length ds links q t.ok priced to (found_one f) reached, at_rated ds links q t.ok priced to (found_one f) reached, lens_bounded ds links q t.ok)
 
       module _ (b : priced < budget) (c : ℕ) (g : c ≡ shares_cost (λ d. get_or ds d 0) (fare links (take (length ds) to)) (length ds)) where
         costs : c ≡ cheapest_cost ds links (get_or every priced [])

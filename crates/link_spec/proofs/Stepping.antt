@@ -9,9 +9,10 @@ use native.Mathlib.Nat.{le_refl}
 use native.Mathlib.Numerals.{add-one}
 use native.Mathlib.Decide.{dec_le}
 use lib.Dec.{ltb}
-use lib.ListN.{length, get_or, take, drop, set, drop_of_length-le}
-use lib.Seq.{take_all, drop-cons, take-suc, set_at, length-take-le}
+use lib.ListN.{length, get_or, take, drop, set, length-set, length-drop, drop_of_length-le}
+use lib.Seq.{take_all, drop-cons, take-suc-set, take-suc, set_at, length-take-le}
 use borrow.Author.Tests.{lt-ltb, le-ltb}
+use borrow.Rule.Slice.PartMut.{put_mid}
 use Rattle.cube_spec.specs.Boxes.{pick}
 use Rattle.cube_spec.specs.Ways.{sum_list}
 use Rattle.link_spec.specs.Stepping.{filled, raised_or, next_of, went, next_or}
@@ -138,6 +139,23 @@ module _ (exps caps : List ℕ) (each : length exps ≡ length caps) where
         (rw (caps_cut, exps_cut, e) (next_hit (get_or caps i 0) (drop (i + 1) caps) (get_or exps i 0) (drop (i + 1) exps) s.1 (omega arith) l)) in
         rw (next_front i caps exps _ (omega arith) (omega arith) hit, add-one (get_or exps i 0)) refl
 
+  -- the axis raised and those after it filled, in place
+  pub raised_put : (i k v : ℕ) (ys : List ℕ) → i < length exps → length exps ≤ i + 1 + k → put_mid (i + 1) k (set exps i v) ys ≡ take i exps ++ (v ∷ ys)
+  raised_put i k v ys h l =
+      let e : drop k (drop (i + 1) (set exps i v)) ≡ [] = drop_of_length-le (drop (i + 1) (set exps i v)) (let n = length-drop (i + 1) (set exps i v) in let m = length-set exps i v in omega arith) in
+      ap (λ (x : List ℕ). take (i + 1) (set exps i v) ++ (ys ++ x)) e
+      ∙ ap₂ (λ (x y : List ℕ). x ++ y) (ap (λ (j : ℕ). take j (set exps i v)) (add-one i) ∙ take-suc-set exps i v h) (append-nil ys)
+      ∙ append_assoc (take i exps) (v ∷ []) ys
+
   pub stuck_end : (rest : ℕ) → Stuck exps caps 0 rest → next_or exps (next_of caps exps) ≡ went false exps
   unfolding Stuck next_or
   stuck_end rest s = rw s.1
+
+-- ---- turns from the last axis down
+
+pub before_last : (P : ℕ → Type 0) {i : ℕ} → 0 < i → P i → P (i - 1 + 1)
+before_last P {i} h p = let e : i - 1 + 1 ≡ i = omega arith in rw e p
+
+-- a turn that raises nothing: there is nothing to take, or no room
+pub kept_on : {rest k c : ℕ} → (0 < rest → c ≤ k) → 0 < rest → k < c → ⊥
+kept_on h p l = let q = h p in omega arith
