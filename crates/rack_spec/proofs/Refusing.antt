@@ -1,17 +1,21 @@
 -- The refusals of an entry that takes a plan and more: the plan's come first, and are passed over when none is due.
 use Prim.Native.Nat.{ℕ, ◌*◌, ◌%◌, ◌^◌, ◌≤◌, ◌<◌}
-use mathlib.Core.Path.{◌≡◌, sym, ◌∙◌, refl, ap}
+use mathlib.Core.Path.{◌≡◌, sym, ◌∙◌, refl}
 use mathlib.Core.Bool.{true, ◌||◌}
 use mathlib.Core.List.{List, [], ◌∷◌, ◌++◌}
 use native.Mathlib.Omega.{arith}
 use borrow.Author.Tests.{lt-ltb, le-ltb, le-leb, lt-leb}
 use Rattle.cube_spec.specs.Limits.{power_limit}
 use Rattle.cube_spec.specs.Checks.{Check, check, first, gives, refuses, answered}
+use Rattle.cube_spec.specs.Refusals.{number_of}
+use Rattle.cube_spec.specs.declared.refusals.Refusal.{Refusal}
+use Rattle.cube_spec.proofs.Answered.{given, error}
+use Rattle.cube_spec.proofs.Numbers.{number_positive}
 use Rattle.cube_spec.proofs.Dues.{Numbered, first_due, first_passed}
 use Rattle.plan_spec.specs.Plans.{lists_of, board_count, step_count}
 use Rattle.plan_spec.specs.Refusals.{length_checks, plan_checks, plan_refusal}
 use Rattle.plan_spec.specs.declared.types.Plan.{Plan}
-use Rattle.plan_spec.proofs.PricingLaws.{shifted, answer_given, answer_refused}
+use Rattle.plan_spec.proofs.PricingLaws.{shifted}
 use Rattle.rack_spec.specs.Held.{held}
 use Rattle.rack_spec.specs.Finding.{plan_grid}
 use Rattle.rack_spec.specs.Answers.{past_end, no_board, held_checks, held_refusal, holding}
@@ -25,6 +29,10 @@ module _ (q : Plan) (r : List Check) where
   unfolding plan_refusal
   plan_due h = first_due (plan_checks q) r h
 
+  -- the same by the refusal that says so
+  pub plan_refused : (e : Refusal) → number_of e ≡ plan_refusal q → first (plan_checks q ++ r) ≡ number_of e
+  plan_refused e h = let s = number_positive e in plan_due (λ z. omega arith) ∙ sym h
+
   pub plan_passed : plan_refusal q ≡ 0 → first (plan_checks q ++ r) ≡ first r
   unfolding plan_refusal
   plan_passed h = first_passed (plan_checks q) r (plan_numbered q) h
@@ -35,9 +43,9 @@ module _ (q : Plan) (at b : ℕ) where
   abbrev answer : ℕ
   answer = held (plan_grid q) at b
 
-  pub held_due : (plan_refusal q ≡ 0 → ⊥) → refuses (plan_refusal q) ≡ holding q at b
+  pub held_due : (e : Refusal) → number_of e ≡ plan_refusal q → refuses (number_of e) ≡ holding q at b
   unfolding holding held_refusal held_checks
-  held_due h = answer_refused (plan_refusal q) answer h ∙ ap (λ n. answered n answer) (sym (plan_due q _ h))
+  held_due e h = error e _ answer (sym (plan_refused q _ e h))
 
   module _ (h : plan_refusal q ≡ 0) where
     last : held_refusal q at b ≡ first (check 12 (past_end (lists_of q) at || no_board (lists_of q) b) ∷ [])
@@ -56,7 +64,7 @@ module _ (q : Plan) (at b : ℕ) where
 
     pub held_given : at ≤ step_count (lists_of q) → b < board_count (lists_of q) → gives answer ≡ holding q at b
     unfolding holding first past_end no_board
-    held_given l k = answer_given (held_refusal q at b) answer (last ∙ rw (le-ltb (step_count (lists_of q)) at l, lt-leb (board_count (lists_of q)) b k) refl)
+    held_given l k = given (held_refusal q at b) answer (last ∙ rw (le-ltb (step_count (lists_of q)) at l, lt-leb (board_count (lists_of q)) b k) refl)
 
 -- 2^p, as a shift gives it
 pub boards_shifted : (q : Plan) → q.p ≤ power_limit → (1 * 2 ^ q.p) % 18446744073709551616 ≡ board_count (lists_of q)

@@ -1,28 +1,42 @@
-use Rattle.plan_spec.proofs.Accepting.{passed_accepted}
-use native.Mathlib.Omega.{arith}
-use mathlib.Core.Path.{sym, ap, ◌∙◌}
-use Rattle.cube_spec.specs.Checks.{gives}
+use Rattle.std.proofs.Common.{arith, rules, sym}
+use Rattle.std.proofs.lemmas.Result.{err_from_is_err_and}
 use Rattle.plan_spec.specs.Plans.{lists_of}
-use Rattle.rack_spec.specs.Grids.{boards}
+use Rattle.plan_spec.proofs.Accepting.{passed_accepted}
 use Rattle.rack_spec.proofs.Counting.{board_count_lem}
 use Rattle.rack_spec.proofs.Refusing.{held_due, held_past, held_outside, held_given, boards_shifted}
-use borrow.Author.Rules.{rules}
 use Rattle.rack_held.proofs.holds.held.Goals as goal
 
-pub returns-then-refusal-ne0 : goal.returns-then-refusal-ne0
-returns-then-refusal-ne0 c = let e = c.plan_refusal-refusal.ensures in rw e (held_due c.args.plan c.args.position c.args.board (rw e at c.if-refusal-ne0.true))
+pub returns-in_err-check_plan : goal.returns-in_err-check_plan
+returns-in_err-check_plan c =
+    let p = err_from_is_err_and c.from_residual.result c.from_residual.ensures.1 in
+    rw (p.1, p.2) (held_due c.args.plan c.args.position c.args.board c.in_err-check_plan.field-0.0 c.in_err-check_plan.ensures)
 
 pub returns-then-steps_of-position : goal.returns-then-steps_of-position
-returns-then-steps_of-position c = let z = sym c.plan_refusal-refusal.ensures ∙ c.if-refusal-ne0.false in let ok = passed_accepted c.args.plan (search rules) (search rules) (search rules) (z) in held_past c.args.plan c.args.position c.args.board z (rw (← c.steps_of.ensures) c.if-steps_of-position.true)
+returns-then-steps_of-position c =
+    held_past c.args.plan c.args.position c.args.board (sym c.in_ok-check_plan.ensures) (rw (← c.steps_of.ensures) c.if-steps_of-position.true)
 
-pub overflow_shl-boards : goal.overflow_shl-boards
-overflow_shl-boards c = let z = sym c.plan_refusal-refusal.ensures ∙ c.if-refusal-ne0.false in let ok = passed_accepted c.args.plan (search rules) (search rules) (search rules) (z) in let b = ok.boards in omega arith
+pub overflow_shl-plan : goal.overflow_shl-plan
+overflow_shl-plan c =
+    let z = sym c.in_ok-check_plan.ensures in
+    let ok = passed_accepted c.args.plan (search rules) (search rules) (search rules) z in
+    let b = ok.boards in
+    omega arith
 
-pub returns-then-boards-board : goal.returns-then-boards-board
-returns-then-boards-board c = let z = sym c.plan_refusal-refusal.ensures ∙ c.if-refusal-ne0.false in let ok = passed_accepted c.args.plan (search rules) (search rules) (search rules) (z) in held_outside c.args.plan c.args.position c.args.board z (rw (← c.steps_of.ensures) c.if-steps_of-position.false) (rw (← boards_shifted c.args.plan ok.boards) c.if-boards-board.true)
+pub returns-then-plan-board : goal.returns-then-plan-board
+returns-then-plan-board c =
+    let z = sym c.in_ok-check_plan.ensures in
+    let ok = passed_accepted c.args.plan (search rules) (search rules) (search rules) z in
+    held_outside c.args.plan c.args.position c.args.board z (rw (← c.steps_of.ensures) c.if-steps_of-position.false) (rw (← boards_shifted c.args.plan ok.boards, ← c.from-board.ensures) c.if-plan-board.true)
 
 pub held_at-requires : goal.held_at-requires
-held_at-requires c = let z = sym c.plan_refusal-refusal.ensures ∙ c.if-refusal-ne0.false in let ok = passed_accepted c.args.plan (search rules) (search rules) (search rules) (z) in (z, rw (board_count_lem (lists_of c.args.plan) ok.sound, ← boards_shifted c.args.plan ok.boards) c.if-boards-board.false)
+held_at-requires c =
+    let z = sym c.in_ok-check_plan.ensures in
+    let ok = passed_accepted c.args.plan (search rules) (search rules) (search rules) z in
+    (z, rw (board_count_lem (lists_of c.args.plan) ok.sound, ← boards_shifted c.args.plan ok.boards) c.if-plan-board.false)
 
 pub returns : goal.returns
-returns c = let z = sym c.plan_refusal-refusal.ensures ∙ c.if-refusal-ne0.false in let ok = passed_accepted c.args.plan (search rules) (search rules) (search rules) (z) in ap gives c.held_at.ensures ∙ held_given c.args.plan c.args.position c.args.board z (rw (← c.steps_of.ensures) c.if-steps_of-position.false) (rw (← boards_shifted c.args.plan ok.boards) c.if-boards-board.false)
+returns c =
+    let z = sym c.in_ok-check_plan.ensures in
+    let ok = passed_accepted c.args.plan (search rules) (search rules) (search rules) z in
+    let b = c.if-plan-board.false in
+    rw (c.held_at.ensures, c.from-board.ensures) (held_given c.args.plan c.args.position c.args.board z (rw (← c.steps_of.ensures) c.if-steps_of-position.false) (rw (← boards_shifted c.args.plan ok.boards, ← c.from-board.ensures) b))
