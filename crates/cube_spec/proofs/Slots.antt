@@ -14,31 +14,73 @@ use Rattle.cube_spec.specs.Boxes.{table_from, table}
 use Rattle.cube_spec.proofs.Sums.{by}
 use Rattle.cube_spec.proofs.Tables.{table_length, table_at}
 
+-- of any values: a spare one stands past the last element
+module _ {A : Type 0} (z : A) where
+  abbrev pub spaced : List A → List A
+  spaced l = take axis_limit (l ++ replicate axis_limit z)
+
+  spaced_length : (l : List A) → length (spaced l) ≡ axis_limit
+  spaced_length l = simp (length-take, length-append, length-replicate) (omega arith)
+
+  spaced_at : (l : List A) (j : ℕ) → j < axis_limit → get_or (spaced l) j z ≡ get_or l j z
+  spaced_at l j h = get_or-take axis_limit (l ++ replicate axis_limit z) j z h ∙ go (dec_lt j (length l))
+    where
+      go : Dec (j < length l) → get_or (l ++ replicate axis_limit z) j z ≡ get_or l j z
+      go (yes q) = get_or-append l (replicate axis_limit z) z j q
+      go (no q) =
+          let e : length l + (j - length l) ≡ j = omega (arith, q) in
+          let y : get_or {A = A} (replicate axis_limit z) (j - length l) z ≡ z = get_or-replicate axis_limit (j - length l) z z (omega arith) in
+          ap (λ k. get_or (l ++ replicate axis_limit z) k z) (sym e) ∙ get_or-append-add l (replicate axis_limit z) (j - length l) z ∙ y ∙ sym (get_or-eq_default l z (omega (arith, q)))
+
+  spaced_of : (l m : List A) → length m ≡ axis_limit → ((j : ℕ) → j < axis_limit → get_or m j z ≡ get_or l j z) → m ≡ spaced l
+  spaced_of l m e h = ext_get_or z m (spaced l) (e ∙ sym (spaced_length l)) (λ j k. h j (omega arith) ∙ sym (spaced_at l j (omega arith)))
+
+  -- past the table all are spare
+  table_or_spare : (n : ℕ) (f : ℕ → A) (j : ℕ) → n ≤ j → get_or (table n f) j z ≡ z
+  table_or_spare n f j h = get_or-eq_default (table_from n 0 f) z (let q = table_length n 0 f in omega arith)
+
+  table_there : (n : ℕ) (f : ℕ → A) (j : ℕ) → j < n → get_or (table n f) j z ≡ f j
+  table_there n f j h = table_at n 0 f j z h ∙ ap f (zero-add j)
+
+  -- one slot more is filled
+  pub spaced_next : (i : ℕ) (f : ℕ → A) → i < axis_limit → set (spaced (table i f)) i (f i) ≡ spaced (table (i + 1) f)
+  spaced_next i f h = spaced_of (table (i + 1) f) (set (spaced (table i f)) i (f i)) (length-set (spaced (table i f)) i (f i) ∙ spaced_length (table i f)) one
+    where
+      one : (j : ℕ) → j < axis_limit → get_or (set (spaced (table i f)) i (f i)) j z ≡ get_or (table (i + 1) f) j z
+      one j k =
+          by (eqb j i)
+          (λ t.
+          let e = eqb-true j i t in
+          rw e (get_or-set_same (spaced (table i f)) i (f i) z (let q = spaced_length (table i f) in omega arith) ∙ sym (table_there (i + 1) f i (omega arith))))
+          (λ t.
+          let ne = eqb-false j i t in
+          get_or-set_other (spaced (table i f)) i j (f i) z ne ∙ spaced_at (table i f) j k ∙ same ne (dec_lt j i))
+        where
+          same : (j ≡ i → ⊥) → Dec (j < i) → get_or (table i f) j z ≡ get_or (table (i + 1) f) j z
+          same ne (yes q) = table_there i f j q ∙ sym (table_there (i + 1) f j (omega arith))
+          same ne (no q) = table_or_spare i f j (omega (arith, q)) ∙ sym (table_or_spare (i + 1) f j (omega (arith, q, ne)))
+
+-- ---- numbers, with zeros past the last
+
 pub padded_length : (l : List ℕ) → length (padded l) ≡ axis_limit
 unfolding padded
-padded_length l = simp (length-take, length-append, length-replicate) (omega arith)
+padded_length l = spaced_length 0 l
 
 pub padded_at : (l : List ℕ) (j : ℕ) → j < axis_limit → get_or (padded l) j 0 ≡ get_or l j 0
 unfolding padded
-padded_at l j h = get_or-take axis_limit (l ++ replicate axis_limit 0) j 0 h ∙ go (dec_lt j (length l))
-  where
-    go : Dec (j < length l) → get_or (l ++ replicate axis_limit 0) j 0 ≡ get_or l j 0
-    go (yes q) = get_or-append l (replicate axis_limit 0) 0 j q
-    go (no q) =
-        let e : length l + (j - length l) ≡ j = omega (arith, q) in
-        let z : get_or {A = ℕ} (replicate axis_limit 0) (j - length l) 0 ≡ 0 = get_or-replicate axis_limit (j - length l) 0 0 (omega arith) in
-        ap (λ k. get_or (l ++ replicate axis_limit 0) k 0) (sym e) ∙ get_or-append-add l (replicate axis_limit 0) (j - length l) 0 ∙ z ∙ sym (get_or-eq_default l 0 (omega (arith, q)))
+padded_at l j h = spaced_at 0 l j h
 
 -- a list in slots is one that has its elements there
 pub padded_of : (l m : List ℕ) → length m ≡ axis_limit → ((j : ℕ) → j < axis_limit → get_or m j 0 ≡ get_or l j 0) → m ≡ padded l
-padded_of l m e h = ext_get_or 0 m (padded l) (e ∙ sym (padded_length l)) (λ j k. h j (omega arith) ∙ sym (padded_at l j (omega arith)))
+unfolding padded
+padded_of l m e h = spaced_of 0 l m e h
 
 -- past the table all is 0
 pub table_or_zero : (n : ℕ) (f : ℕ → ℕ) (j : ℕ) → n ≤ j → get_or (table n f) j 0 ≡ 0
-table_or_zero n f j h = get_or-eq_default (table_from n 0 f) 0 (let q = table_length n 0 f in omega arith)
+table_or_zero n f j h = table_or_spare 0 n f j h
 
 pub table_here : (n : ℕ) (f : ℕ → ℕ) (j : ℕ) → j < n → get_or (table n f) j 0 ≡ f j
-table_here n f j h = table_at n 0 f j 0 h ∙ ap f (zero-add j)
+table_here n f j h = table_there 0 n f j h
 
 -- a table in slots: eight of them, each that of the table where it has one
 pub table_slots : (n : ℕ) (f : ℕ → ℕ) (r : List ℕ) → n ≤ axis_limit → r ≡ padded (table n f) → (length r ≡ axis_limit) × ((d : ℕ) → d < n → get_or r d 0 ≡ f d)
@@ -56,21 +98,29 @@ slots_table n f r e here past = padded_of (table n f) r e (λ j k. go j (dec_lt 
 
 -- one slot more is filled
 pub padded_next : (i : ℕ) (f : ℕ → ℕ) → i < axis_limit → set (padded (table i f)) i (f i) ≡ padded (table (i + 1) f)
-padded_next i f h = padded_of (table (i + 1) f) (set (padded (table i f)) i (f i)) (length-set (padded (table i f)) i (f i) ∙ padded_length (table i f)) one
+unfolding padded
+padded_next i f h = spaced_next 0 i f h
+
+-- the elements, and then the slots that are left
+pub padded_rest : (l : List ℕ) → length l ≤ axis_limit → l ++ drop (length l) (replicate axis_limit 0) ≡ padded l
+padded_rest l h = padded_of l (l ++ drop (length l) (replicate axis_limit 0)) whole one
   where
-    one : (j : ℕ) → j < axis_limit → get_or (set (padded (table i f)) i (f i)) j 0 ≡ get_or (table (i + 1) f) j 0
-    one j k =
-        by (eqb j i)
-        (λ t.
-        let e = eqb-true j i t in
-        rw e (get_or-set_same (padded (table i f)) i (f i) 0 (let q = padded_length (table i f) in omega arith) ∙ sym (table_here (i + 1) f i (omega arith))))
-        (λ t.
-        let ne = eqb-false j i t in
-        get_or-set_other (padded (table i f)) i j (f i) 0 ne ∙ padded_at (table i f) j k ∙ same ne (dec_lt j i))
+    whole : length (l ++ drop (length l) (replicate {A = ℕ} axis_limit 0)) ≡ axis_limit
+    whole = simp (length-append, length-drop, length-replicate) (omega arith)
+
+    one : (j : ℕ) → j < axis_limit → get_or (l ++ drop (length l) (replicate axis_limit 0)) j 0 ≡ get_or l j 0
+    one j k = go (dec_lt j (length l))
       where
-        same : (j ≡ i → ⊥) → Dec (j < i) → get_or (table i f) j 0 ≡ get_or (table (i + 1) f) j 0
-        same ne (yes q) = table_here i f j q ∙ sym (table_here (i + 1) f j (omega arith))
-        same ne (no q) = table_or_zero i f j (omega (arith, q)) ∙ sym (table_or_zero (i + 1) f j (omega (arith, q, ne)))
+        go : Dec (j < length l) → get_or (l ++ drop (length l) (replicate axis_limit 0)) j 0 ≡ get_or l j 0
+        go (yes q) = get_or-append l (drop (length l) (replicate axis_limit 0)) 0 j q
+        go (no q) =
+            let s : length l + (j - length l) ≡ j = omega (arith, q) in
+            ap (λ i. get_or (l ++ drop (length l) (replicate axis_limit 0)) i 0) (sym s)
+            ∙ get_or-append-add l (drop (length l) (replicate axis_limit 0)) (j - length l) 0
+            ∙ get_or-drop (length l) (replicate axis_limit 0) (j - length l) 0
+            ∙ ap (λ i. get_or (replicate axis_limit 0) i 0) s
+            ∙ get_or-replicate axis_limit j 0 0 k
+            ∙ sym (get_or-eq_default l 0 (omega (arith, q)))
 
 -- all of a list, element by element
 pub padded_all : (l : List ℕ) (n : ℕ) → length l ≡ n → padded (table n (λ i. get_or l i 0)) ≡ padded l

@@ -6,15 +6,16 @@ use mathlib.Core.List.{List}
 use native.Mathlib.Omega.{arith}
 use native.Mathlib.Nat.{pow-succ'}
 use native.Mathlib.Decide.{dec_le}
+use borrow.Author.Tests.{lt-ltb}
 use lib.Dec.{eqb}
 use lib.ListN.{length, get_or}
 use lib.Pow.{pow_mono, pow_pos}
 use Rattle.std.specs.Prelude.{Option, Some, None, IfNone, IfSome, unwrap_or}
-use Rattle.std.specs.List.{sum, sum_by, count_by}
-use Rattle.std.proofs.lemmas.List.Recursion.{is_sum_by, is_count_by, or_is}
+use Rattle.std.specs.List.{sum, sum_by, count_by, position, position_or_len}
+use Rattle.std.proofs.lemmas.List.Recursion.{is_sum_by, is_count_by, is_position_or_len, or_is}
 use Rattle.cube_spec.specs.Boxes.{pick}
 use Rattle.cube_spec.specs.Ways.{sum_list, log2, room}
-use Rattle.plan_spec.specs.Plans.{count}
+use Rattle.plan_spec.specs.Plans.{count, find}
 use Rattle.plan_spec.specs.Refusals.{all, some}
 use Rattle.plan_spec.proofs.Judging.{all_each, all_fails, log2_none}
 use Rattle.plan_spec.proofs.Room.{log2_fit, log2_most}
@@ -58,3 +59,16 @@ pub log2_or : (d : ℕ) (o : Option ℕ) → IfNone o (d ≡ 0) → IfSome o (λ
     → (unwrap_or o 0 ≡ log2 d) × (unwrap_or o 0 < 32)
 log2_or d None n l h b = (sym (log2_none d (omega arith)), omega arith)
 log2_or d (Some k) n l h b = (log2_by d k l h, b)
+
+-- ---- `position`, where something is found
+
+place_step : (b : Bool) (n : ℕ) → pick b 0 (suc n) ≡ cond b 0 (1 + n)
+place_step true n = refl
+place_step false n = omega arith
+
+pub find_listed : (a : ℕ) (l : List ℕ) → find a l ≡ position_or_len (λ x. eqb x a) l
+unfolding find
+find_listed a l = is_position_or_len (find a) (λ x. eqb x a) refl (λ x r. place_step (eqb x a) (find a r)) l
+
+pub found_at : (a : ℕ) (l : List ℕ) → find a l < length l → position (λ x. eqb x a) l ≡ Some (find a l)
+found_at a l h = let e = find_listed a l in rw (lt-ltb (position_or_len (λ x. eqb x a) l) (length l) (omega arith), e)
