@@ -6,12 +6,13 @@ use borrow.Fn.World.{ArgsD, ResD}
 use borrow.Fn.Kinds.{GoodsP}
 use denote.Triple.Clauses.{AtExit}
 use Rattle.cube_spec.specs.Checks.{gives}
+use Rattle.cube_spec.specs.Refusals.{reply_of}
 use Rattle.plan_spec.specs.declared.types.Plan.{Plan}
 use Rattle.plan_spec.specs.declared.types.Marked.{Marked}
 use Rattle.plan_spec.specs.Plans.{lists_of}
 use Rattle.plan_spec.specs.Accepted.{HasSlots}
 use Rattle.plan_spec.specs.Refusals.{plan_refusal}
-use Rattle.plan_spec.specs.Answers.{prices_of, marked_of, priced_reply, pricing}
+use Rattle.plan_spec.specs.Answers.{prices_of, marked_of, pricing}
 use Rattle.plan_spec.specs.Marking.{Marking}
 use Rattle.plan_spec.proofs.Accepting.{accepted}
 use Rattle.plan_spec.proofs.PricingLaws.{given_is}
@@ -33,9 +34,9 @@ pricing_marking q slots m e =
 
 -- for every call, by what its caller learns; `good` is what owning the plan tells, that its arrays have their slots
 pub priced_marking : (κs : Lfts 0) (a : ArgsD signature κs) (r : ResD signature κs) (s : AtExit ended κs) (good : GoodsP κs kinds.ps a)
-    → reads.Learnt κs a r s → (m : Marked) → priced_reply r ≡ gives m → MarkingOf a.0 m
+    → reads.Learnt κs a r s → (m : Marked) → reply_of r ≡ gives m → MarkingOf a.0 m
 priced_marking κs a r s good h m e =
-    let q : priced_reply r ≡ pricing a.0 = h in
+    let q : reply_of r ≡ pricing a.0 = h in
     let g = good.0.1.1.1.1 in
     let slots : HasSlots a.0 = (g.0.1.0.1, (g.1.0.1.0.1, g.1.1.0.1.0.1)) in
     pricing_marking a.0 slots m (sym q ∙ e)

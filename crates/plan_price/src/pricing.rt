@@ -1,16 +1,18 @@
-ghost use Rattle.std.specs.Prelude.{◌≡◌, ◌-◌, ◌^◌, ◌≤◌, ◌<◌};
-ghost use Rattle.cube_spec.specs.Limits.{axis_limit, power_limit};
+ghost use Rattle.std.specs.Prelude.{◌≡◌, ◌-◌, ◌^◌, ◌≤◌, ◌<◌, length};
+ghost use Rattle.cube_spec.specs.Limits.{power_limit};
 ghost use Rattle.cube_spec.specs.Choices.{length_of};
 ghost use Rattle.cube_spec.specs.Tree.{sent};
+ghost use Rattle.cube_spec.specs.Refusals.{reply_of};
 ghost use Rattle.plan_spec.specs.Plans.{lists_of};
 ghost use Rattle.plan_spec.specs.Refusals.{plan_refusal};
-ghost use Rattle.plan_spec.specs.Answers.{prices_of, never_rise, fewest_added, priced_reply, pricing};
+ghost use Rattle.plan_spec.specs.Answers.{prices_of, never_rise, fewest_added, pricing};
 ghost use Rattle.plan_spec.specs.Pricing.{moved_from, added_from, Undecided};
 
-use plan_check::plan_refusal;
+use cube_spec::refusals::Refusal;
+use plan_check::check_plan;
 use plan_order::in_order;
-use plan_region::{exponents_along, regions_to};
-use plan_spec::types::{Marked, Plan, Priced, Prices};
+use plan_region::regions_to;
+use plan_spec::types::{Marked, Plan, Prices};
 
 // What choices move and add up.
 #[derive(Clone, Copy)]
@@ -29,30 +31,23 @@ fn sent_of(k: u8) -> u64
 
 // Over every choice that the axes from i on may still give: k is the exponent of the last axis summed so far, 0 while there is none,
 // `cells` are those of the choice so far, and `parent` those of its parent, 0 while nothing is summed.
-fn choices_from(
-    lengths: [u32; 8],
-    exponents: [u8; 8],
-    n: usize,
-    i: usize,
-    k: u8,
-    cells: u64,
-    parent: u64,
-) -> Sums
-    requires { Undecided lengths exponents n i k cells parent }
-    ensures { (result.moved ≡ moved_from lengths exponents (n - i) i k cells) × (result.added ≡ added_from lengths (n - i) i cells parent) × (result.moved ≤ 2 ^ 42) × (result.added ≤ 2 ^ 42) }
+fn choices_from(lengths: &[u32], exponents: &[u8], i: usize, k: u8, cells: u64, parent: u64) -> Sums
+    requires each { length exponents.now ≡ length lengths.now }
+    requires undecided { Undecided lengths.now exponents.now (length lengths.now) i k cells parent }
+    ensures { (result.moved ≡ moved_from lengths.now exponents.now (length lengths.now - i) i k cells) × (result.added ≡ added_from lengths.now (length lengths.now - i) i cells parent) × (result.moved ≤ 2 ^ 42) × (result.added ≤ 2 ^ 42) }
 {
-    if i == n {
+    if i == lengths.len() {
         let sent = sent_of(k);
         return Sums {
             moved: cells * sent,
             added: parent,
         };
     }
-    let length = lengths[i] as u64;
+    let length = u64::from(lengths[i]);
     let last = exponents[i];
     let more = cells * length;
-    let kept = choices_from(lengths, exponents, n, i + 1, k, more, parent * length);
-    let summed = choices_from(lengths, exponents, n, i + 1, last, cells, more);
+    let kept = choices_from(lengths, exponents, i + 1, k, more, parent * length);
+    let summed = choices_from(lengths, exponents, i + 1, last, cells, more);
     Sums {
         moved: kept.moved + summed.moved,
         added: kept.added + summed.added,
@@ -65,13 +60,11 @@ pub fn prices(plan: Plan) -> Prices
     ensures { result ≡ prices_of (lists_of plan) }
 {
     let n = plan.axes as usize;
-    let by_axis = plan.lengths;
-    let cuts = plan.exponents;
-    let order = plan.order;
-    let lengths = in_order(by_axis, order, n);
-    let exponents = exponents_along(cuts, order, n);
-    let sums = choices_from(lengths, exponents, n, 0, 0, 1, 0);
-    let regions = regions_to(lengths, exponents, n, n);
+    let order = &plan.order[..n];
+    let lengths = in_order(&plan.lengths, order, 0);
+    let exponents = in_order(&plan.exponents, order, 0);
+    let sums = choices_from(&lengths[..n], &exponents[..n], 0, 0, 1, 0);
+    let regions = regions_to(&lengths[..n], &exponents[..n], n);
     Prices {
         moved: sums.moved,
         added: sums.added,
@@ -79,19 +72,11 @@ pub fn prices(plan: Plan) -> Prices
     }
 }
 
-// Do n lengths never rise?
-fn never_rise(lengths: [u32; 8], n: usize) -> bool
-    requires { n ≤ axis_limit }
-    ensures { result ≡ never_rise n (length_of lengths) }
+// Do lengths never rise?
+fn never_rise(lengths: &[u32]) -> bool
+    ensures { result ≡ never_rise (length lengths.now) (length_of lengths.now) }
 {
-    let mut i: usize = 0;
-    while i + 1 < n {
-        if lengths[i] < lengths[i + 1] {
-            return false;
-        }
-        i += 1;
-    }
-    true
+    lengths.windows(2).all(|pair| pair[1] <= pair[0])
 }
 
 // Has a plan that no check refuses the fewest cells added up? It has exactly where lengths never rise along its order.
@@ -100,21 +85,16 @@ fn fewest(plan: Plan) -> bool
     ensures { result ≡ fewest_added (lists_of plan) }
 {
     let n = plan.axes as usize;
-    let by_axis = plan.lengths;
-    let places = plan.order;
-    let along = in_order(by_axis, places, n);
-    never_rise(along, n)
+    let along = in_order(&plan.lengths, &plan.order[..n], 0);
+    never_rise(&along[..n])
 }
 
 // The public entry: a plan's prices with its mark, or its refusal.
-pub fn price(plan: Plan) -> Priced
-    ensures { priced_reply result ≡ pricing plan }
+pub fn price(plan: Plan) -> Result<Marked, Refusal>
+    ensures { reply_of result ≡ pricing plan }
 {
-    let refusal = plan_refusal(plan);
-    if refusal != 0 {
-        return Priced::Refused(refusal);
-    }
-    Priced::Given(Marked {
+    check_plan(plan)?;
+    Ok(Marked {
         prices: prices(plan),
         fewest: fewest(plan),
     })

@@ -1,9 +1,9 @@
 // The regions of a share.
 #![tactic(auto)]
 
-ghost use Rattle.std.specs.Prelude.{◌≡◌, ℕ, ◌+◌, ◌*◌, ◌^◌, ◌≤◌, ◌<◌, get_or};
-ghost use Rattle.cube_spec.specs.Limits.{axis_limit, power_limit, point_limit, padded};
-ghost use Rattle.cube_spec.specs.Boxes.{pick, table};
+ghost use Rattle.std.specs.Prelude.{◌≡◌, ◌+◌, ◌*◌, ◌^◌, ◌≤◌, ◌<◌, length};
+ghost use Rattle.cube_spec.specs.Limits.{power_limit, point_limit};
+ghost use Rattle.cube_spec.specs.Boxes.{pick};
 ghost use Rattle.cube_spec.specs.Portions.{ceiling};
 ghost use Rattle.cube_spec.specs.Tree.{region_start};
 ghost use Rattle.plan_spec.specs.Plans.{most_at, lists_of};
@@ -25,8 +25,7 @@ fn most_of(length: u32, k: u8) -> u64
     requires { k ≤ power_limit }
     ensures { (result ≡ ceiling length (2 ^ k)) × (result < 2 ^ 33) }
 {
-    let parts = 1u64 << k;
-    ((length as u64) + (parts - 1)) / parts
+    u64::from(length).div_ceil(1u64 << k)
 }
 
 // The sum so far, with one axis more in each product, and the product that leaves it out if its region is counted.
@@ -41,37 +40,22 @@ fn with_axis(sum: u64, most: u64, all: u64, counted: bool) -> u64
 }
 
 // The regions before region i, and all of them, which are A: region r is the product of the most positions on each other axis.
-pub fn regions_to(lengths: [u32; 8], exponents: [u8; 8], n: usize, i: usize) -> Region
-    requires { (Priceable lengths exponents n) × (i ≤ n) }
-    ensures { (result.start ≡ region_start n (most_of lengths exponents) i) × (result.share ≡ region_start n (most_of lengths exponents) n) × (result.start ≤ point_limit * i) × (result.share ≤ point_limit * n) }
+pub fn regions_to(lengths: &[u32], exponents: &[u8], i: usize) -> Region
+    requires each { length exponents.now ≡ length lengths.now }
+    requires axes { Priceable lengths.now exponents.now (length lengths.now) }
+    requires region { i ≤ length lengths.now }
+    ensures { (result.start ≡ region_start (length lengths.now) (most_of lengths.now exponents.now) i) × (result.share ≡ region_start (length lengths.now) (most_of lengths.now exponents.now) (length lengths.now)) × (result.start ≤ point_limit * i) × (result.share ≤ point_limit * length lengths.now) }
 {
     let mut start: u64 = 0;
     let mut share: u64 = 0;
     let mut all: u64 = 1;
-    let mut d: usize = 0;
-    while d < n {
-        let most = most_of(lengths[d], exponents[d]);
+    for (d, &length) in lengths.iter().enumerate() {
+        let most = most_of(length, exponents[d]);
         start = with_axis(start, most, all, d < i);
         share = with_axis(share, most, all, true);
-        all = all * most;
-        d += 1;
+        all *= most;
     }
     Region { start, share }
-}
-
-// Exponents in plan order.
-pub fn exponents_along(exponents: [u8; 8], order: [u8; 8], n: usize) -> [u8; 8]
-    requires { (n ≤ axis_limit) × ((d : ℕ) → d < n → get_or order d 0 < axis_limit) }
-    ensures { result ≡ padded (table n (λ d. get_or exponents (get_or order d 0) 0)) }
-{
-    let mut along = [0u8; 8];
-    let mut d: usize = 0;
-    while d < n {
-        let axis = order[d] as usize;
-        along[d] = exponents[axis];
-        d += 1;
-    }
-    along
 }
 
 // Where region i of a share starts, and A.
@@ -80,10 +64,8 @@ pub fn region_of(plan: Plan, i: usize) -> Region
     ensures { (result.start ≡ region_start plan.axes (most_at (lists_of plan)) i) × (result.share ≡ region_start plan.axes (most_at (lists_of plan)) plan.axes) × (result.start ≤ point_limit * i) × (result.share ≤ point_limit * plan.axes) }
 {
     let n = plan.axes as usize;
-    let by_axis = plan.lengths;
-    let cuts = plan.exponents;
-    let order = plan.order;
-    let lengths = in_order(by_axis, order, n);
-    let exponents = exponents_along(cuts, order, n);
-    regions_to(lengths, exponents, n, i)
+    let order = &plan.order[..n];
+    let lengths = in_order(&plan.lengths, order, 0);
+    let exponents = in_order(&plan.exponents, order, 0);
+    regions_to(&lengths[..n], &exponents[..n], i)
 }

@@ -1,18 +1,18 @@
 -- Laws of pricing: the recursion over undecided axes gives the sums over every set, and stays far below 2^64.
-use Prim.Native.Nat.{ℕ, zero, suc, ◌+◌, ◌-◌, ◌*◌, ◌%◌, ◌^◌, ◌≤◌, ◌<◌}
+use Prim.Native.Nat.{ℕ, zero, suc, ◌+◌, ◌-◌, ◌*◌, ◌/◌, ◌%◌, ◌^◌, ◌≤◌, ◌<◌, min}
 use mathlib.Core.Path.{◌≡◌, sym, ◌∙◌, refl, ap, ap₂}
-use mathlib.Core.Bool.{true, false}
-use mathlib.Core.List.{List, [], ◌∷◌}
-use native.Mathlib.Nat.{one-mul, mul-one, mul_assoc, mul_right_comm, mul-le-mul, mul-le-mul_left, mul-le-mul_right, le_trans, mod-eq_of_lt, div-le_of_le-mul, le-div_iff_mul-le, pow-succ', sub-zero}
+use mathlib.Core.List.{List, [], ◌∷◌, ◌++◌}
+use native.Mathlib.Nat.{one-mul, mul-one, mul_assoc, mul_right_comm, mul-le-mul, mul-le-mul_left, mul-le-mul_right, le_trans, mod-eq_of_lt, div-le_of_le-mul, le-div_iff_mul-le, div-lt_iff_lt-mul, pow-succ', sub-zero}
 use native.Mathlib.Numerals.{add-one}
 use native.Mathlib.Omega.{arith}
-use borrow.Author.Tests.{eqb-true, eqb-false, le-leb, lt-leb}
+use borrow.Author.Tests.{eqb-true, eqb-false}
 use lib.Dec.{eqb, leb}
-use lib.ListN.{get_or, take}
+use lib.ListN.{length, get_or, take, replicate}
 use lib.Pow.{pow_pos, pow_mono}
 use lib.Seq.{get_or-take}
-use Rattle.cube_spec.specs.Limits.{point_limit, power_limit}
-use Rattle.cube_spec.specs.Boxes.{pick, sum_n, product, table_from}
+use Rattle.std.proofs.lemmas.Grind.{div_ceil_times}
+use Rattle.cube_spec.specs.Limits.{axis_limit, point_limit, power_limit, padded}
+use Rattle.cube_spec.specs.Boxes.{pick, sum_n, product, table_from, table}
 use Rattle.cube_spec.specs.Choices.{points, length_of}
 use Rattle.cube_spec.specs.Portions.{ceiling}
 use Rattle.cube_spec.specs.Tree as Tree
@@ -22,18 +22,19 @@ use Rattle.cube_spec.specs.Checks.{gives, refuses, answered}
 use Rattle.cube_spec.proofs.Sums.{by}
 use Rattle.cube_spec.proofs.Boxing.{product_cong}
 use Rattle.cube_spec.proofs.Naturals.{sum_n_cong, impossible}
-use Rattle.cube_spec.proofs.Products.{product_pos, product_le, factor_le, product_next, product_none}
+use Rattle.cube_spec.proofs.Products.{product_pos, product_le, product_next}
+use Rattle.cube_spec.proofs.Slots.{padded_take, table_here}
+use Rattle.cube_spec.proofs.Tables.{table_length}
 use Rattle.cube_spec.proofs.Sets.{has_head, kept_has, kept_out, kept_other}
 use Rattle.cube_spec.proofs.Axes.{axis, tree, moved_tree, added_tree}
 use Rattle.plan_spec.specs.declared.types.Plan.{Plan}
 use Rattle.plan_spec.specs.Plans as Plans
 use Rattle.plan_spec.specs.Plans.{length_at, exponent_at, most_at, lists_of}
-use Rattle.plan_spec.specs.Refusals.{all}
 use Rattle.plan_spec.specs.Accepted.{Accepted}
-use Rattle.plan_spec.specs.Answers.{prices_of, steady_at, never_rise, fewest_added}
+use Rattle.plan_spec.specs.Answers.{prices_of, never_rise, fewest_added}
 use Rattle.plan_spec.specs.Pricing.{moved_from, added_from, most_of, Priceable, Undecided}
 use Rattle.plan_spec.proofs.Orders.{order_below, product_order}
-use Rattle.plan_spec.proofs.Judging.{all_same, all_next, all_fails, all_end}
+use Rattle.plan_spec.proofs.Judging.{all_same}
 
 -- ---- powers of two
 
@@ -122,9 +123,6 @@ module _ (L E : List ℕ) (n : ℕ) (ok : Priceable L E n) where
   rest_pos : (i : ℕ) → 0 < product (length_of L) (n - i) i
   rest_pos i = product_pos (length_of L) (n - i) i (λ j a b. ok.some j (omega arith))
 
-  pub length_small : (i : ℕ) → i < n → length_of L i ≤ point_limit
-  length_small i h = le_trans (factor_le (length_of L) n 0 i (λ j a b. ok.some j (omega arith)) (omega arith) (omega arith)) ok.small
-
   -- a number times what is left is at least the number
   small_factor : (x i : ℕ) → x * product (length_of L) (n - i) i ≤ point_limit → x ≤ point_limit
   small_factor x i h = let q = mul-le-mul_left x (rest_pos i) in let p = mul-one x in omega arith
@@ -203,24 +201,25 @@ module _ (L E : List ℕ) (n : ℕ) (len exp : ℕ → ℕ) (lens : (d : ℕ) �
 
 -- ---- A
 
+-- the library's division that rounds up
+pub ceiling_divides : (D m : ℕ) → 0 < m → D / m + min 1 (D % m) ≡ ceiling D m
+unfolding ceiling
+ceiling_divides D m h =
+    let b = div_ceil_times D m h in
+    let l = (le-div_iff_mul-le {k = m} {x = D / m + min 1 (D % m)} {y = D + (m - 1)} h).1 (omega arith) in
+    let r = (div-lt_iff_lt-mul {k = m} {x = D + (m - 1)} {y = D / m + min 1 (D % m) + 1} h).1 (omega arith) in
+    omega arith
+
 ceiling_le : (D m : ℕ) → 1 ≤ D → 1 ≤ m → ceiling D m ≤ D
 unfolding ceiling
 ceiling_le zero m h k = absurd (omega arith)
 ceiling_le (suc D) zero h k = absurd (omega arith)
 ceiling_le (suc D) (suc m) h k = div-le_of_le-mul (suc m) {m = suc D + (suc m - 1)} {n = suc D} (omega arith)
 
-ceiling_pos : (D m : ℕ) → 1 ≤ D → 1 ≤ m → 0 < ceiling D m
-unfolding ceiling
-ceiling_pos D m h k = (le-div_iff_mul-le {k = m} {x = 1} {y = D + (m - 1)} k).1 (omega arith)
-
 module _ (L E : List ℕ) (n : ℕ) (ok : Priceable L E n) where
   most_le : (d : ℕ) → d < n → most_of L E d ≤ length_of L d
   unfolding most_of
   most_le d h = ceiling_le (length_of L d) (2 ^ get_or E d 0) (ok.some d h) (pow_pos (get_or E d 0))
-
-  most_pos : (d : ℕ) → d < n → 0 < most_of L E d
-  unfolding most_of
-  most_pos d h = ceiling_pos (length_of L d) (2 ^ get_or E d 0) (ok.some d h) (pow_pos (get_or E d 0))
 
   module _ (i : ℕ) where
     -- the factors of region i
@@ -240,38 +239,9 @@ module _ (L E : List ℕ) (n : ℕ) (ok : Priceable L E n) where
         (λ t. let e = eqb-true d i t in let f = factor_same in let s = ok.some d h in rw e (let s : 1 ≤ length_of L i = (rw e at s) in omega arith))
         (λ t. rw (factor_other d (eqb-false d i t)) (most_le d h))
 
-    factor_pos : (d : ℕ) → d < n → 0 < factor d
-    factor_pos d h =
-        by (eqb d i)
-        (λ t. rw (eqb-true d i t, factor_same) (omega arith))
-        (λ t. rw (factor_other d (eqb-false d i t)) (most_pos d h))
-
     pub region_small : region_size n (most_of L E) i ≤ point_limit
     unfolding region_size choice_cells
     region_small = le_trans (product_le factor (length_of L) n 0 (λ d a b. factor_le_length d (omega arith))) ok.small
-
-    pub region_start_lem : 1 * product factor (n - 0) 0 ≡ region_size n (most_of L E) i
-    unfolding region_size choice_cells
-    region_start_lem = rw (sub-zero, one-mul)
-
-    pub region_end : (d size : ℕ) → n ≤ d → size * product factor (n - d) d ≡ region_size n (most_of L E) i → size ≡ region_size n (most_of L E) i
-    region_end d size h e = rw (product_none factor n d h, mul-one) at e
-
-    module _ (d size : ℕ) (h : d < n) (e : size * product factor (n - d) d ≡ region_size n (most_of L E) i) where
-      pub region_other : (d ≡ i → ⊥) → size * most_of L E d * product factor (n - (d + 1)) (d + 1) ≡ region_size n (most_of L E) i
-      region_other ne = rw (product_next factor n d h, factor_other d ne, ← mul_assoc) at e
-
-      pub region_same : d ≡ i → size * product factor (n - (d + 1)) (d + 1) ≡ region_size n (most_of L E) i
-      region_same z = let f : factor d ≡ 1 = rw z factor_same in rw (product_next factor n d h, f, one-mul) at e
-
-      -- so far the product is at most the region
-      pub region_fits : (d ≡ i → ⊥) → size * most_of L E d ≤ point_limit
-      region_fits ne =
-          let r = region_other ne in
-          let s = region_small in
-          let p = mul-le-mul_left (size * most_of L E d) (product_pos factor (n - (d + 1)) (d + 1) (λ j a b. factor_pos j (omega arith))) in
-          let q = mul-one (size * most_of L E d) in
-          omega arith
 
 pub share_next : (n i : ℕ) (most : ℕ → ℕ) → region_start n most (i + 1) ≡ region_start n most i + region_size n most i
 unfolding region_start sum_n
@@ -306,10 +276,38 @@ module _ (q : Plan) (ok : Accepted q) where
   unfolding lists_of
   below d h = let e = ok.axes in let b = order_below (lists_of q) ok.sound d (omega arith) in omega arith
 
-  -- the axis at place d is one of the slots
-  pub order_fits : (d : ℕ) → d < q.axes → get_or q.order d 0 < 8
+  order_length : length (take q.axes q.order) ≡ q.axes
   unfolding lists_of
-  order_fits d h = let b = below d h in let g = get_or-take q.axes q.order d 0 h in let e = ok.axes in let f = ok.lengths.few in omega arith
+  order_length = ok.sound.places ∙ ok.axes
+
+  -- the axis at place d is one of the slots
+  pub order_fits : (length (take q.axes q.order) ≤ axis_limit) × ((d : ℕ) → d < length (take q.axes q.order) → get_or (take q.axes q.order) d 0 < axis_limit)
+  unfolding lists_of
+  order_fits =
+      let n = order_length in
+      let f = few_axes ok in
+      (omega arith, λ d h. let b = below d (omega arith) in omega arith)
+
+  -- what stands in slots along the order, as far as the order goes
+  abbrev pub Along : List ℕ → List ℕ → Type 0
+  Along slots r = r ≡ take axis_limit (table (length (take q.axes q.order)) (λ d. get_or slots (get_or (take q.axes q.order) d 0) 0) ++ replicate axis_limit 0)
+
+  module _ (slots r : List ℕ) (along : Along slots r) where
+    along_table : take q.axes r ≡ table q.axes (λ d. get_or slots (get_or (take q.axes q.order) d 0) 0)
+    unfolding padded
+    along_table =
+        ap (take q.axes) along
+        ∙ ap (λ n. take q.axes (padded (table n (λ d. get_or slots (get_or (take q.axes q.order) d 0) 0)))) order_length
+        ∙ padded_take (table q.axes (λ d. get_or slots (get_or (take q.axes q.order) d 0) 0)) q.axes (table_length q.axes 0 _) (few_axes ok)
+
+    pub along_length : length (take q.axes r) ≡ q.axes
+    along_length = ap length along_table ∙ table_length q.axes 0 _
+
+    pub along_at : (d : ℕ) → d < q.axes → get_or (take q.axes r) d 0 ≡ get_or slots (get_or q.order d 0) 0
+    along_at d h =
+        ap (λ l. get_or l d 0) along_table
+        ∙ table_here q.axes (λ d. get_or slots (get_or (take q.axes q.order) d 0) 0) d h
+        ∙ ap (λ a. get_or slots a 0) (get_or-take q.axes q.order d 0 h)
 
   -- what the axis at place d has in its slot
   pub along : (slots : List ℕ) (d : ℕ) → d < q.axes → get_or slots (get_or q.order d 0) 0 ≡ get_or (take q.axes slots) (get_or (take q.axes q.order) d 0) 0
@@ -377,20 +375,6 @@ module _ (q : Plan) (ok : Accepted q) where
 
     pub starts_same : (i : ℕ) → region_start q.axes (most_of L E) i ≡ region_start q.axes (most_at (lists_of q)) i
     starts_same i = starts_cong q.axes i (most_of L E) (most_at (lists_of q)) most_along
-
--- ---- the mark, as a loop over neighbours finds it: the first i of them do not rise
-
-module _ (len : ℕ → ℕ) (n i : ℕ) where
-  pub steady_next : all i (steady_at len) ≡ true → len (i + 1) ≤ len i → all (i + 1) (steady_at len) ≡ true
-  steady_next e h = all_next (steady_at len) i e (le-leb _ _ (rw add-one at h))
-
-  pub rises : i + 1 < n → len i < len (i + 1) → never_rise n len ≡ false
-  unfolding never_rise
-  rises l h = all_fails (steady_at len) (n - 1) i (omega arith) (lt-leb _ _ (rw add-one at h))
-
-  pub steady_end : i ≤ n - 1 → n ≤ i + 1 → all i (steady_at len) ≡ true → never_rise n len ≡ true
-  unfolding never_rise
-  steady_end h k e = all_end (steady_at len) (n - 1) i h (omega arith) e
 
 -- ---- the entry's answer
 

@@ -36,9 +36,6 @@ last_lt h k = omega arith
 pub last_le : {i n : ℕ} → i ≤ n → i - 1 ≤ n
 last_le h = omega arith
 
-pub last_below : {i n : ℕ} → 0 < i → i ≤ n → n ≤ 8 → i - 1 < 8
-last_below h k l = omega arith
-
 -- ---- slots that are filled one by one
 
 pub filled : (f : ℕ → ℕ) (out : List ℕ) (i x : ℕ) → i < 8 → x ≡ f i → out ≡ padded (table i f) → set out i x ≡ padded (table (i + 1) f)

@@ -1,15 +1,17 @@
-use Prim.Native.Nat.{◌+◌, ◌-◌, ◌^◌}
-use mathlib.Core.Path.{refl}
+use Prim.Native.Nat.{◌+◌, ◌-◌, ◌/◌, ◌^◌}
+use mathlib.Core.Path.{◌≡◌, ◌∙◌}
 use native.Mathlib.Nat.{div-le_self}
 use native.Mathlib.Omega.{arith}
-use lib.ListN.{length}
 use Rattle.cube_spec.specs.Portions.{ceiling}
-use Rattle.plan_spec.proofs.PricingLaws.{shifted, power_small}
+use Rattle.plan_spec.proofs.PricingLaws.{shifted, power_small, ceiling_divides}
 use Rattle.plan_region.proofs.most_of.Goals as goal
 
 pub returns : goal.returns
 unfolding ceiling
-returns c = let p = power_small c.args.k c.requires in
-    let f = c.ranges.length.fits in
-    let d = div-le_self (c.args.length + (2 ^ c.args.k - 1)) (2 ^ c.args.k) in
-    rw (shifted c.args.k c.requires) (refl, omega arith)
+returns c =
+    let d = c.args.length in
+    let m = 2 ^ c.args.k in
+    let p = power_small c.args.k c.requires in
+    let e = rw (c.from.ensures, shifted c.args.k c.requires) at c.div_ceil.ensures in
+    let q : c.div_ceil.result ≡ (d + (m - 1)) / m = e ∙ ceiling_divides d m p.0 in
+    (q, let s = div-le_self (d + (m - 1)) m in omega (arith, c.ranges.length.fits))

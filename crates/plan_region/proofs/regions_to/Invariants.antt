@@ -1,5 +1,4 @@
 -- `plan_region::regions_to` meets its contract. The invariant: the regions of the first d axes alone.
-use Prim.Native.Nat.{◌-◌, ◌≤◌}
 use mathlib.Core.Path.{◌≡◌}
 use Rattle.cube_spec.specs.Boxes.{product}
 use Rattle.cube_spec.specs.Tree.{region_start}
@@ -8,7 +7,7 @@ use Rattle.plan_region.proofs.Regions.{Started}
 use Rattle.plan_region.proofs.regions_to.Given as goal
 
 abbrev pub invariant-loop-d : goal.invariant-loop-d
-invariant-loop-d l = (l.d ≤ l.n) × (l.n ≤ 8) × (l.all ≡ product (most_of l.lengths l.exponents) l.d 0) × (l.share ≡ region_start l.d (most_of l.lengths l.exponents) l.d) × Started (most_of l.lengths l.exponents) l.i l.d l.start
-
-abbrev pub decreases-loop-d : goal.decreases-loop-d
-decreases-loop-d l = l.n - l.d
+invariant-loop-d l =
+    (l.all ≡ product (most_of l.lengths l.exponents) l.d 0)
+    × (l.share ≡ region_start l.d (most_of l.lengths l.exponents) l.d)
+    × Started (most_of l.lengths l.exponents) l.i l.d l.start
