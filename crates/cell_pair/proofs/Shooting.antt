@@ -1,16 +1,10 @@
--- Points as machine words: the tests and the complement that the code makes.
-use Prim.Native.Nat.{ℕ, suc, ◌<◌, ◌≤◌, ◌-◌, ◌+◌}
-use mathlib.Core.Path.{◌≡◌, refl}
-use mathlib.Core.Bool.{true, false}
-use native.Mathlib.Omega.{arith}
-use borrow.Author.Tests.{eq-eqb, ne_eqb, ltb-true}
-use lib.Dec.{T}
-use lib.IntN.{ℤ, pos, negsuc, nat_abs}
-use lib.Signed.{lt_z, non_neg}
-use mir.Syntax.{w32}
-use mir.Val.{SFits, of_z, to_z}
-use mir.ValLaws.{to_z_pos}
-use Rattle.cube_spec.specs.Shots.{unshot}
+-- Points as machine words: the tests and the sum that the code makes.
+use Rattle.std.proofs.Common.{◌<◌, ◌+◌, ◌%◌, ◌≡◌, refl, true, false, not, eqb, ℤ, pos, negsuc, w32, SFits, of_z, arith}
+use borrow.Author.Tests.{eq-eqb, ne_eqb, eqb-true, eqb-false}
+use mir.Val.{bool_byte}
+use Rattle.cube_spec.specs.Shots.{unshot, shot_of}
+use Rattle.cube_spec.proofs.Sums.{by}
+use Rattle.cube_spec.proofs.Shots.{shot_none, shot_some}
 use Rattle.cell_pair.specs.Tiles.{raised_of}
 
 -- the test that the code makes
@@ -24,18 +18,14 @@ unfolding unshot
 unmarked (pos n) f q = refl
 unmarked (negsuc n) f q = let h : n < 2147483648 = f.sfits in ne_eqb n 2147483647 (λ e. q (omega arith))
 
--- a negative point's complement
-pub flipped : (x : ℤ) → SFits w32 x → lt_z x (pos 0) ≡ true
-    → (to_z w32 (4294967295 - of_z w32 x) ≡ pos (2147483647 - raised_of x)) × (raised_of x ≤ 2147483647)
-unfolding raised_of
-flipped (pos n) f t = absurd (let h : n < 0 = ltb-true n 0 t in omega arith)
-flipped (negsuc n) f t =
-    let h : n < 2147483648 = f.sfits in
-    let e : 4294967295 - (4294967296 - suc n) ≡ n = omega arith in
-    let g : 2147483647 - (2147483647 - n) ≡ n = omega arith in
-    (rw (e, g) (to_z_pos w32 n h), omega arith)
+-- the test as a number
+pub tested : (x : ℤ) → SFits w32 x → pos (bool_byte (not (eqb (of_z w32 x) 2147483648))) ≡ shot_of x
+tested x f = by (eqb (of_z w32 x) 2147483648)
+    (λ t. rw t (shot_none x (marked x f (eqb-true (of_z w32 x) 2147483648 t))))
+    (λ t. rw t (shot_some x (unmarked x f (eqb-false (of_z w32 x) 2147483648 t))))
 
-pub from_pos : (x : ℤ) → SFits w32 x → lt_z x (pos 0) ≡ false → (T (non_neg x)) × (nat_abs x < 2147483648) × (nat_abs x + 2147483648 ≡ raised_of x)
+-- 2^31 added to the bits
+pub raised_bits : (x : ℤ) → SFits w32 x → (of_z w32 x + 2147483648) % 4294967296 ≡ raised_of x
 unfolding raised_of
-from_pos (pos n) f t = (tt, f.sfits, refl)
-from_pos (negsuc n) f t = absurd (let e : ◌≡◌ {A = ℕ} 0 1 = cc in omega arith)
+raised_bits (pos n) f = let h : n < 2147483648 = f.sfits in omega arith
+raised_bits (negsuc n) f = let h : n < 2147483648 = f.sfits in omega arith

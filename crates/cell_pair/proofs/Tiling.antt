@@ -11,7 +11,7 @@ use lib.IntN.{ℤ, pos, negsuc, ◌+ℤ◌, ◌-ℤ◌, pos-+ℤ-pos, +ℤ-neg_�
 use lib.ListN.{length, get_or, set, length-set, replicate, length-replicate, get_or-replicate}
 use lib.Seq.{get_or-set_same, get_or-set_other}
 use mir.Syntax.{w32, w64}
-use mir.Val.{SFits, Fits}
+use mir.Val.{SFits}
 use Rattle.cube_spec.specs.Boxes.{pick, sum_z}
 use Rattle.cube_spec.proofs.Sums.{by, exchange}
 use Rattle.cell_spec.specs.Wrapped.{wrapped}
@@ -112,15 +112,6 @@ point_more a at t k low high hits x e f b c = rw add-one (record {
     counts : pos (hits + count_of x) ≡ sum_z k (every (shots a) at t) +ℤ get_or (shots a) (at + k * t) (pos 0)
     counts = sym (pos-+ℤ-pos hits (count_of x)) ∙ ap₂ ◌+ℤ◌ c.counts (count_shot x f ∙ s)
 
--- what adding a point asks of a column, and what adding four does
-pub column_room : {a : List ℤ} {at t m low high hits : ℕ} → Column a at t m low high hits → m < 65536
-    → (low + 65535 < 4294967296) × (high + 65535 < 4294967296) × (hits + 1 < 4294967296)
-column_room p q = (omega (arith, p.low_most), omega (arith, p.high_most), omega (arith, p.hits_most))
-
-pub column_room_four : {a : List ℤ} {at t m low high hits : ℕ} → Column a at t m low high hits → m + 4 ≤ 65536
-    → (low + 262140 < 4294967296) × (high + 262140 < 4294967296) × (hits + 4 < 4294967296)
-column_room_four p q = (omega (arith, p.low_most), omega (arith, p.high_most), omega (arith, p.hits_most))
-
 -- a difference of two numbers below 2^63 is signed
 pub sub_fits : (a b : ℕ) → a < 9223372036854775808 → b < 9223372036854775808 → SFits w64 (pos a -ℤ pos b)
 sub_fits a zero h k = record { sfits = let g : a + 0 < 9223372036854775808 = omega arith in g }
@@ -129,10 +120,6 @@ sub_fits a (suc n) h k = go (ltb a (suc n)) refl
     go : (t : Bool) → ltb a (suc n) ≡ t → SFits w64 (cond t (negsuc (suc n - suc a)) (pos (a - suc n)))
     go true e = record { sfits = let g : suc n - suc a < 9223372036854775808 = omega arith in g }
     go false e = record { sfits = let g : a - suc n < 9223372036854775808 = omega arith in g }
-
--- a 32-bit number is signed in 64
-pub word_fits : {n : ℕ} → Fits w32 n → SFits w64 (pos n)
-word_fits f = record { sfits = omega arith }
 
 -- what a column is written as
 pub column_sum : {a : List ℤ} {at t k low high hits : ℕ} → Column a at t k low high hits → k ≤ 65536
@@ -196,28 +183,7 @@ pub tile_counts : {a : List ℤ} {at u t n e : ℕ} {l h c : List ℕ} → Tile 
 unfolding combs counts_of
 tile_counts p b i q = column_count (p.columns i q) b
 
--- counted from a later column on
-pub shifted : (l : List ℤ) (at e t i j : ℕ) → combs l (at + i) 1 e t j ≡ combs l at 1 e t (i + j)
-unfolding combs
-shifted l at e t i j = let q : at + i + j * 1 ≡ at + (i + j) * 1 = omega arith in rw q
-
 -- ---- rows of a tile
-
-pub part_none : {a : List ℤ} {at t n m : ℕ} (k : ℕ) {l h c : List ℕ} → Tile a at 1 t n m l h c → Part a at t n m k 0 l h c
-part_none {a} {at} {t} {n} {m} k {l} {h} {c} p = record {
-  low_room = p.low_room;
-  high_room = p.high_room;
-  hits_room = p.hits_room;
-  columns = λ j q. rw (le-ltb j 0 (omega arith)) (p.columns j q);
-}
-
-pub part_all : {a : List ℤ} {at t n m k : ℕ} {l h c : List ℕ} → Part a at t n m k n l h c → Tile a at 1 t n (m + k) l h c
-part_all {a} {at} {t} {n} {m} {k} {l} {h} {c} p = record {
-  low_room = p.low_room;
-  high_room = p.high_room;
-  hits_room = p.hits_room;
-  columns = λ j q. rw (lt-ltb j n q) at (p.columns j q);
-}
 
 -- the next column, before
 pub part_here : {a : List ℤ} {at t n m k i : ℕ} {l h c : List ℕ} → Part a at t n m k i l h c → i < n

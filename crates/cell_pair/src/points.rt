@@ -7,39 +7,26 @@ ghost use Rattle.cell_pair.specs.Tiles.{raised_of};
 pub fn value(x: i32) -> i64
     ensures { result ≡ value_of x }
 {
-    if x == -2147483648 {
-        return 0;
-    }
-    x as i64
+    if x == i32::MIN { 0 } else { i64::from(x) }
 }
 
 // What it adds to a count.
 pub fn shot(x: i32) -> i64
     ensures { result ≡ shot_of x }
 {
-    if x != -2147483648 {
-        return 1;
-    }
-    0
+    i64::from(x != i32::MIN)
 }
 
 // The point raised by 2^31. Compiled, it is one instruction.
 pub fn raised(x: i32) -> u32
     ensures { result ≡ raised_of x }
 {
-    if x < 0 {
-        let m = !x;
-        return 2147483647 - (m as u32);
-    }
-    (x as u32) + 2147483648
+    x.cast_unsigned().wrapping_add(1 << 31)
 }
 
 // 1 for a raised point that was shot.
 pub fn counted(b: u32) -> u32
     ensures { (result ≤ 1) × (b ≡ 0 → result ≡ 0) × (0 < b → result ≡ 1) }
 {
-    if 0 < b {
-        return 1;
-    }
-    0
+    u32::from(0 < b)
 }

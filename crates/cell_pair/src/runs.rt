@@ -1,19 +1,13 @@
 // Sums of runs of neighbours.
-ghost use Rattle.std.specs.Prelude.{◌≡◌, ◌+◌, ◌*◌, ◌≤◌, ◌<◌, length};
+ghost use Rattle.std.specs.Prelude.{◌≡◌, ◌+◌, ◌≤◌, ◌<◌, length};
 ghost use Rattle.cube_spec.specs.Shots.{values, shots};
-ghost use Rattle.cell_spec.specs.Rows.{combs, written};
-ghost use Rattle.cell_pair.specs.Tiles.{Column, Tile};
+ghost use Rattle.cell_spec.specs.Rows.{written};
+ghost use Rattle.cell_row.specs.Combs.{Within, sums};
+ghost use Rattle.cell_pair.specs.Tiles.{Column};
 
 use crate::points::{counted, raised};
-use crate::tiles::{write_counts, write_sums};
-
-// What a column of a tile holds: the sums of the two halves of its raised points, and how many were shot.
-#[derive(Clone, Copy)]
-pub struct Halves {
-    pub low: u32,
-    pub high: u32,
-    pub hits: u32,
-}
+use crate::tiles::{Columns, Halves};
+use cell_row::combs::Comb;
 
 // Sums the e neighbours from a place on.
 fn sum_run(array: &[i32], at: usize, e: usize) -> Halves
@@ -24,89 +18,43 @@ fn sum_run(array: &[i32], at: usize, e: usize) -> Halves
     let mut high: u32 = 0;
     let mut hits: u32 = 0;
     for m in 0..e {
-        let x = array[at + m];
-        let b = raised(x);
-        low = low + b % 65536;
-        high = high + b / 65536;
-        hits = hits + counted(b);
+        let b = raised(array[at + m]);
+        low += b % 65536;
+        high += b / 65536;
+        hits += counted(b);
     }
-    Halves {
-        low: low,
-        high: high,
-        hits: hits,
-    }
-}
-
-// Fills n columns with runs of e points, u apart.
-fn fill_runs(
-    lows: &mut [u32],
-    highs: &mut [u32],
-    hits: &mut [u32],
-    array: &[i32],
-    at: usize,
-    u: usize,
-    n: usize,
-    e: usize,
-)
-    requires { (at + n * u + e * 1 < length array.now + u + 1) × (0 < e) × (e ≤ 65536)
-        × (n ≤ length lows.old) × (n ≤ length highs.old) × (n ≤ length hits.old) }
-    ensures { Tile array.now at u 1 n e lows.new highs.new hits.new }
-{
-    for i in 0..n {
-        let run = sum_run(array, at + i * u, e);
-        let low = run.low;
-        let high = run.high;
-        let hit = run.hits;
-        lows[i] = low;
-        highs[i] = high;
-        hits[i] = hit;
-    }
+    Halves { low, high, hits }
 }
 
 // The sums and counts of up to 16 runs.
-fn sum_some(
-    work: &mut [i64],
-    counts: &mut [i64],
-    array: &[i32],
-    at: usize,
-    u: usize,
-    n: usize,
-    e: usize,
-    dst: usize,
-)
-    requires { (at + n * u + e * 1 < length array.now + u + 1) × (n ≤ 16) × (0 < e) × (e ≤ 65536) × (dst + n ≤ length work.old) × (dst + n ≤ length counts.old) }
-    ensures { (work.new ≡ written work.old dst n (combs (values array.now) at u e 1))
-        × (counts.new ≡ written counts.old dst n (combs (shots array.now) at u e 1)) }
+fn sum_some(work: &mut [i64], counts: &mut [i64], array: &[i32], comb: Comb, dst: usize)
+    requires { (Within comb (length array.now)) × (comb.step ≡ 1) × (comb.count ≤ 16) × (comb.values ≤ 65536)
+        × (dst + comb.count ≤ length work.old) × (dst + comb.count ≤ length counts.old) }
+    ensures { (work.new ≡ written work.old dst comb.count (sums comb (values array.now)))
+        × (counts.new ≡ written counts.old dst comb.count (sums comb (shots array.now))) }
 {
-    let mut lows = [0u32; 16];
-    let mut highs = [0u32; 16];
-    let mut hits = [0u32; 16];
-    fill_runs(&mut lows, &mut highs, &mut hits, array, at, u, n, e);
-    write_sums(work, &lows, &highs, &hits, n, dst);
-    write_counts(counts, &hits, n, dst);
+    let mut columns = Columns::<16>::new();
+    for i in 0..comb.count {
+        let run = sum_run(array, comb.first + i * comb.apart, comb.values);
+        columns.put(i, run);
+    }
+    columns.write_sums(work, comb.count, dst);
+    columns.write_counts(counts, comb.count, dst);
 }
 
 // The sums and counts of any number of runs, 16 at a time.
-pub fn sum_runs(
-    work: &mut [i64],
-    counts: &mut [i64],
-    array: &[i32],
-    at: usize,
-    u: usize,
-    n: usize,
-    e: usize,
-    dst: usize,
-)
-    requires { (at + n * u + e * 1 < length array.now + u + 1) × (0 < e) × (e ≤ 65536) × (dst + n ≤ length work.old) × (dst + n ≤ length counts.old) }
-    ensures { (work.new ≡ written work.old dst n (combs (values array.now) at u e 1))
-        × (counts.new ≡ written counts.old dst n (combs (shots array.now) at u e 1)) }
+pub fn sum_runs(work: &mut [i64], counts: &mut [i64], array: &[i32], comb: Comb, dst: usize)
+    requires { (Within comb (length array.now)) × (comb.step ≡ 1) × (comb.values ≤ 65536)
+        × (dst + comb.count ≤ length work.old) × (dst + comb.count ≤ length counts.old) }
+    ensures { (work.new ≡ written work.old dst comb.count (sums comb (values array.now)))
+        × (counts.new ≡ written counts.old dst comb.count (sums comb (shots array.now))) }
 {
-    let mut i: usize = 0;
-    while 16 < n - i {
-        sum_some(work, counts, array, at + i * u, u, 16, e, dst + i);
-        i += 16;
+    for k in 0..comb.count / 16 {
+        sum_some(work, counts, array, comb.part(16 * k, 16), dst + 16 * k);
     }
-    if i < n {
-        sum_some(work, counts, array, at + i * u, u, n - i, e, dst + i);
+    let rest = comb.count % 16;
+    if 0 < rest {
+        let done = comb.count - rest;
+        sum_some(work, counts, array, comb.part(done, rest), dst + done);
     }
 }

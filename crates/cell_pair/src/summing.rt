@@ -1,18 +1,19 @@
 // Boxes of sums over points of the array, which are read through strides, and of counts, in one reading.
-ghost use Rattle.std.specs.Prelude.{◌≡◌, ◌+◌, ◌*◌, ◌≤◌, ◌<◌, length, set};
+ghost use Rattle.std.specs.Prelude.{◌≡◌, ◌+◌, ◌*◌, ◌≤◌, ◌<◌, length};
 ghost use Rattle.cube_spec.specs.Boxes.{sum_z};
 ghost use Rattle.cube_spec.specs.Shots.{values, shots};
 ghost use Rattle.cell_spec.specs.Wrapped.{wrapped};
-ghost use Rattle.cell_spec.specs.Rows.{every, combs, written};
+ghost use Rattle.cell_spec.specs.Rows.{every, written};
 ghost use Rattle.cell_spec.specs.Strides.{box_size, box_sums, Sums};
+ghost use Rattle.cell_row.specs.Combs.{Within, sums};
 
 use crate::points::{shot, value};
 use crate::rows::sum_rows;
 use crate::runs::sum_runs;
-use cell_row::wrapping::wrapping_add;
+use cell_row::combs::Comb;
 
 // A sum with its count.
-#[derive(Clone, Copy)]
+#[derive(Clone, Copy, Debug)]
 pub struct Both {
     pub sum: i64,
     pub count: i64,
@@ -28,80 +29,39 @@ fn sum_points(array: &[i32], at: usize, n: usize, step: usize) -> Both
     let mut count: i64 = 0;
     for m in 0..n {
         let x = array[at + m * step];
-        sum = wrapping_add(sum, value(x));
-        count = wrapping_add(count, shot(x));
+        sum = sum.wrapping_add(value(x));
+        count = count.wrapping_add(shot(x));
     }
-    Both {
-        sum: sum,
-        count: count,
+    Both { sum, count }
+}
+
+// The sums and counts one by one.
+fn sum_each(work: &mut [i64], counts: &mut [i64], array: &[i32], comb: Comb, dst: usize)
+    requires { (Within comb (length array.now)) × (dst + comb.count ≤ length work.old) × (dst + comb.count ≤ length counts.old) }
+    ensures { (work.new ≡ written work.old dst comb.count (sums comb (values array.now)))
+        × (counts.new ≡ written counts.old dst comb.count (sums comb (shots array.now))) }
+{
+    for i in 0..comb.count {
+        let both = sum_points(array, comb.first + i * comb.apart, comb.values, comb.step);
+        work[dst + i] = both.sum;
+        counts[dst + i] = both.count;
     }
 }
 
-// n sums and counts, one by one.
-fn sum_each(
-    work: &mut [i64],
-    counts: &mut [i64],
-    array: &[i32],
-    at: usize,
-    u: usize,
-    n: usize,
-    t: usize,
-    e: usize,
-    dst: usize,
-)
-    requires { (at + n * u + e * t < length array.now + u + t) × (0 < e) × (dst + n ≤ length work.old) × (dst + n ≤ length counts.old) }
-    ensures { (work.new ≡ written work.old dst n (combs (values array.now) at u e t))
-        × (counts.new ≡ written counts.old dst n (combs (shots array.now) at u e t)) }
+// The sums and counts by the fastest way: rows and runs in 32-bit numbers, where these hold the sums, the others one by one.
+fn sum_line(work: &mut [i64], counts: &mut [i64], array: &[i32], comb: Comb, dst: usize)
+    requires { (Within comb (length array.now)) × (dst + comb.count ≤ length work.old) × (dst + comb.count ≤ length counts.old) }
+    ensures { (work.new ≡ written work.old dst comb.count (sums comb (values array.now)))
+        × (counts.new ≡ written counts.old dst comb.count (sums comb (shots array.now))) }
 {
-    for i in 0..n {
-        let both = sum_points(array, at + i * u, e, t);
-        let sum = both.sum;
-        let count = both.count;
-        work[dst + i] = sum;
-        counts[dst + i] = count;
+    let small = comb.values <= 65536;
+    if small && comb.apart == 1 && 7 < comb.count {
+        sum_rows(work, counts, array, comb, dst);
+    } else if small && comb.step == 1 {
+        sum_runs(work, counts, array, comb, dst);
+    } else {
+        sum_each(work, counts, array, comb, dst);
     }
-}
-
-// Writes a sum and its count.
-fn put(work: &mut [i64], counts: &mut [i64], at: usize, both: Both)
-    requires { (at < length work.old) × (at < length counts.old) }
-    ensures { (work.new ≡ set work.old at both.sum) × (counts.new ≡ set counts.old at both.count) }
-{
-    let sum = both.sum;
-    let count = both.count;
-    work[at] = sum;
-    counts[at] = count;
-}
-
-// n sums and counts by the fastest way: rows and runs in 32-bit numbers, where these hold the sums, the others one by one.
-fn sum_line(
-    work: &mut [i64],
-    counts: &mut [i64],
-    array: &[i32],
-    at: usize,
-    u: usize,
-    n: usize,
-    t: usize,
-    e: usize,
-    dst: usize,
-)
-    requires { (at + n * u + e * t < length array.now + u + t) × (0 < e) × (dst + n ≤ length work.old) × (dst + n ≤ length counts.old) }
-    ensures { (work.new ≡ written work.old dst n (combs (values array.now) at u e t))
-        × (counts.new ≡ written counts.old dst n (combs (shots array.now) at u e t)) }
-{
-    if e <= 65536 {
-        if u == 1 {
-            if 7 < n {
-                sum_rows(work, counts, array, at, n, t, e, dst);
-                return;
-            }
-        }
-        if t == 1 {
-            sum_runs(work, counts, array, at, u, n, e, dst);
-            return;
-        }
-    }
-    sum_each(work, counts, array, at, u, n, t, e, dst);
 }
 
 // The sums and counts of a box, m axes from axis d on, in as many cells from dst on of each area; the n points of a sum stand step apart. Gives their number.
@@ -128,18 +88,26 @@ pub fn sum_box(
 {
     if m == 0 {
         let both = sum_points(array, at, n, step);
-        put(work, counts, dst, both);
+        work[dst] = both.sum;
+        counts[dst] = both.count;
         return 1;
     }
     let e = extents[d];
     let t = strides[d];
     if m == 1 {
-        sum_line(work, counts, array, at, t, e, step, n, dst);
+        let comb = Comb {
+            first: at,
+            apart: t,
+            count: e,
+            step,
+            values: n,
+        };
+        sum_line(work, counts, array, comb, dst);
         return e;
     }
     let mut to = dst;
     for x in 0..e {
-        let r = sum_box(
+        let size = sum_box(
             work,
             counts,
             array,
@@ -152,7 +120,7 @@ pub fn sum_box(
             step,
             to,
         );
-        to = to + r;
+        to += size;
     }
     to - dst
 }

@@ -17,16 +17,16 @@ pub struct Comb {
 }
 
 impl Comb {
-    ghost use Rattle.cell_row.specs.Combs.{after};
+    ghost use Rattle.cell_row.specs.Combs.{part};
 
-    // Its sums from sum i on.
-    pub fn after(self, i: usize) -> Comb
-        requires { (self.first + i * self.apart < 2 ^ 64) × (i ≤ self.count) }
-        ensures { result ≡ after self i }
+    // n of its sums, from sum i on.
+    pub fn part(self, i: usize, n: usize) -> Comb
+        requires { self.first + i * self.apart < 2 ^ 64 }
+        ensures { result ≡ part self i n }
     {
         Comb {
             first: self.first + i * self.apart,
-            count: self.count - i,
+            count: n,
             ..self
         }
     }
@@ -87,10 +87,11 @@ pub fn sum_combs<T: Addend>(work: &mut [i64], values: &[T], comb: Comb, dst: usi
     ensures { work.new ≡ written work.old dst comb.count (sums comb (map T.value values.now)) }
 {
     for k in 0..comb.count / 4 {
-        sum_four(work, values, comb.after(4 * k), dst + 4 * k);
+        sum_four(work, values, comb.part(4 * k, 4), dst + 4 * k);
     }
-    let done = comb.count - comb.count % 4;
-    if done < comb.count {
-        sum_each(work, values, comb.after(done), dst + done);
+    let rest = comb.count % 4;
+    if 0 < rest {
+        let done = comb.count - rest;
+        sum_each(work, values, comb.part(done, rest), dst + done);
     }
 }

@@ -85,7 +85,7 @@ pub fn sum_box(
     }
     let mut to = dst;
     for x in 0..e {
-        to += sum_box(
+        let size = sum_box(
             work,
             array,
             extents,
@@ -97,6 +97,7 @@ pub fn sum_box(
             step,
             to,
         );
+        to += size;
     }
     to - dst
 }

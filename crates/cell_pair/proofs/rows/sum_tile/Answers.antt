@@ -1,24 +1,14 @@
-use Prim.Native.Nat.{ℕ, ◌+◌}
-use mathlib.Core.Path.{◌≡◌, ◌∙◌}
-use lib.ListN.{length-replicate}
-use native.Mathlib.Omega.{arith}
-use Rattle.cell_spec.proofs.Writing.{row_fits, same}
+use Rattle.std.proofs.Common.{◌≡◌, ◌∙◌, arith}
+use Rattle.cell_spec.proofs.Writing.{same}
 use Rattle.cell_pair.proofs.Tiling.{tile_none, tile_sums, tile_counts}
-use borrow.Author.Rules.{rules}
 use Rattle.cell_pair.proofs.rows.sum_tile.Goals as goal
 
-pub loop-m-init : goal.loop-m-init
-loop-m-init c = let r = length-replicate {A = ℕ} 64 0 in (search rules, r, r, r, tile_none 64 _ _ _ _ c.requires.1)
-
-pub add_four-requires : goal.add_four-requires
-add_four-requires c =
-    let a = c.args in
-    let h = c.if-e-m-ge4.true in
-    let r = row_fits (c.loop-m.m + 3) a.e a.t (omega arith) in
-    (c.loop-m.invariant.4, omega arith, omega arith)
+pub loop-k-init : goal.loop-k-init
+loop-k-init g c = let e = c.new-columns.ensures in rw (e.0, e.1, e.2) (tile_none g.row.N _ _ _ _ c.requires.3)
 
 pub returns : goal.returns
-returns c =
-    let q : c.loop-m.m ≡ c.args.e = omega arith in
-    let p = rw q at c.loop-m.invariant.4 in
-    (c.write_sums.ensures ∙ same _ _ _ _ _ (tile_sums p c.requires.2), c.write_counts.ensures ∙ same _ _ _ _ _ (tile_counts p c.requires.2))
+returns g c =
+    let q : c.loop-m.m ≡ c.args.comb.values = omega arith in
+    let p = rw (q, ← c.requires.2) at c.loop-m.invariant in
+    let b = c.requires.4 in
+    (c.write_sums.ensures ∙ same _ _ _ _ _ (tile_sums p b), c.write_counts.ensures ∙ same _ _ _ _ _ (tile_counts p b))

@@ -1,13 +1,10 @@
--- `sum_tile` meets its contract. The invariant: each column holds its first m points; e - m falls.
-use Prim.Native.Nat.{◌≤◌, ◌-◌}
-use mathlib.Core.Path.{◌≡◌}
-use lib.ListN.{length}
+-- each column holds its first 4 k points, and then its first m
+use Rattle.std.proofs.Common.{◌*◌}
 use Rattle.cell_pair.specs.Tiles.{Tile}
 use Rattle.cell_pair.proofs.rows.sum_tile.Given as goal
 
-abbrev pub invariant-loop-m : goal.invariant-loop-m
-invariant-loop-m l = (l.m ≤ l.e) × (length l.lows ≡ 64) × (length l.highs ≡ 64) × (length l.hits ≡ 64)
-    × (Tile l.array l.at 1 l.t l.n l.m l.lows l.highs l.hits)
+abbrev pub invariant-loop-k : goal.invariant-loop-k
+invariant-loop-k g l = Tile l.array l.comb.first 1 l.comb.step l.comb.count (4 * l.k) l.columns.lows l.columns.highs l.columns.hits
 
-abbrev pub decreases-loop-m : goal.decreases-loop-m
-decreases-loop-m l = l.e - l.m
+abbrev pub invariant-loop-m : goal.invariant-loop-m
+invariant-loop-m g l = Tile l.array l.comb.first 1 l.comb.step l.comb.count l.m l.columns.lows l.columns.highs l.columns.hits

@@ -1,14 +1,11 @@
--- `sum_tiles` meets its contract. The invariant: the sums and counts of the first i columns are written; n - i falls.
-use Prim.Native.Nat.{◌≤◌, ◌-◌}
-use mathlib.Core.Path.{◌≡◌}
-use lib.ListN.{length}
-use Rattle.cell_spec.specs.Rows.{written, combs}
+-- the sums and counts of the first k tiles are written
+use Rattle.std.proofs.Common.{◌≡◌, ◌*◌}
 use Rattle.cube_spec.specs.Shots.{values, shots}
+use Rattle.cell_spec.specs.Rows.{written}
+use Rattle.cell_row.specs.Combs.{sums}
 use Rattle.cell_pair.proofs.rows.sum_tiles.Given as goal
 
-abbrev pub invariant-loop-i : goal.invariant-loop-i
-invariant-loop-i l = (l.i ≤ l.n) × (length l.work ≡ length l.initial.work) × (length l.counts ≡ length l.initial.counts)
-    × (l.work ≡ written l.initial.work l.dst l.i (combs (values l.array) l.at 1 l.e l.t)) × (l.counts ≡ written l.initial.counts l.dst l.i (combs (shots l.array) l.at 1 l.e l.t))
-
-abbrev pub decreases-loop-i : goal.decreases-loop-i
-decreases-loop-i l = l.n - l.i
+abbrev pub invariant-loop-k : goal.invariant-loop-k
+invariant-loop-k g l =
+    (l.work ≡ written l.initial.work l.dst (l.k * g.row.N) (sums l.comb (values l.array)))
+    × (l.counts ≡ written l.initial.counts l.dst (l.k * g.row.N) (sums l.comb (shots l.array)))

@@ -1,43 +1,39 @@
-use Prim.Native.Nat.{◌-◌, ◌+◌}
-use mathlib.Core.Path.{◌≡◌, ◌∙◌, refl}
-use native.Mathlib.Omega.{arith}
+use Rattle.std.proofs.Common.{◌≡◌, ◌+◌, ◌-◌, ◌*◌, ◌%◌, ◌≤◌, refl, arith}
 use Rattle.cell_spec.specs.Rows.{placed, written}
-use Rattle.cell_spec.proofs.Writing.{joined}
-use Rattle.cell_spec.proofs.Combs.{rows_fit, comb_shift}
-use borrow.Author.Rules.{rules}
+use Rattle.cell_row.proofs.Combing.{within_part, part_written}
 use Rattle.cell_pair.proofs.runs.sum_runs.Goals as goal
 
-pub loop-i-init : goal.loop-i-init
+pub loop-k-init : goal.loop-k-init
 unfolding written placed
-loop-i-init c = (search rules, refl, refl, refl, refl)
+loop-k-init c = (refl, refl)
 
 pub sum_some-requires : goal.sum_some-requires
 sum_some-requires c =
-    let a = c.args in
-    let r = rows_fit c.loop-i.i 16 a.n a.u (omega arith) in
-    (omega arith, omega arith, c.requires.1, c.requires.2, omega arith, omega arith)
+    let e = c.part.ensures in
+    let b = c.requires in
+    let h : 16 * c.loop-k.k + 16 ≤ c.args.comb.count = omega arith in
+    (rw e (within_part c.args.comb _ b.0 _ _ h), rw e b.1, rw e (omega arith), rw e b.2, rw e (omega arith), rw e (omega arith))
 
-pub loop-i-preserved : goal.loop-i-preserved
-loop-i-preserved c =
-    let r = c.sum_some.ensures in (
-      search rules,
-      search rules,
-      search rules,
-      rw (r.0, c.loop-i.invariant.3) (joined _ _ _ 16 _ _ (λ j h. comb_shift _ _ _ _ _ _ j)),
-      rw (r.1, c.loop-i.invariant.4) (joined _ _ _ 16 _ _ (λ j h. comb_shift _ _ _ _ _ _ j)),
-    )
+pub loop-k-preserved : goal.loop-k-preserved
+loop-k-preserved c =
+    let e = c.sum_some.ensures in
+    let p = c.part.ensures in
+    let s = c.loop-k.invariant in
+    (rw (e.0, s.0, p) (part_written _ c.args.comb _ _ _ 16 _ (omega arith)), rw (e.1, s.1, p) (part_written _ c.args.comb _ _ _ 16 _ (omega arith)))
 
-pub sum_some-requires-then-i-n : goal.sum_some-requires-then-i-n
-sum_some-requires-then-i-n c =
-    let a = c.args in
-    let r = rows_fit c.loop-i.i (a.n - c.loop-i.i) a.n a.u (omega arith) in
-    (omega arith, omega arith, c.requires.1, c.requires.2, omega arith, omega arith)
+pub sum_some-requires-then-rest-gt0 : goal.sum_some-requires-then-rest-gt0
+sum_some-requires-then-rest-gt0 c =
+    let n = c.args.comb.count in
+    let e = c.part-then-rest-gt0.ensures in
+    let b = c.requires in
+    let h : n - n % 16 + n % 16 ≤ n = omega arith in
+    (rw e (within_part c.args.comb _ b.0 _ _ h), rw e b.1, rw e (omega arith), rw e b.2, rw e (omega arith), rw e (omega arith))
 
-pub returns-then-i-n : goal.returns-then-i-n
-returns-then-i-n c =
-    let a = c.args in
-    let r = c.sum_some-then-i-n.ensures in
-    let q : c.loop-i.i + (a.n - c.loop-i.i) ≡ a.n = omega arith in (
-      rw (r.0, c.loop-i.invariant.3) (joined _ _ _ _ _ _ (λ j h. comb_shift _ _ _ _ _ _ j) ∙ rw q),
-      rw (r.1, c.loop-i.invariant.4) (joined _ _ _ _ _ _ (λ j h. comb_shift _ _ _ _ _ _ j) ∙ rw q),
-    )
+pub returns-then-rest-gt0 : goal.returns-then-rest-gt0
+returns-then-rest-gt0 c =
+    let n = c.args.comb.count in
+    let q : 16 * c.loop-k.k ≡ n - n % 16 = omega arith in
+    let e = c.sum_some-then-rest-gt0.ensures in
+    let p = c.part-then-rest-gt0.ensures in
+    let s = c.loop-k.invariant in
+    (rw (e.0, s.0, p, q) (part_written _ c.args.comb _ _ _ _ n (omega arith)), rw (e.1, s.1, p, q) (part_written _ c.args.comb _ _ _ _ n (omega arith)))

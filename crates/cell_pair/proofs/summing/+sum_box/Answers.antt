@@ -1,28 +1,28 @@
-use Rattle.cell_spec.proofs.Summing.{sums_part, sums_more, sums_reads, row_sums_fit, row_sums_lem, one_sum}
-use Rattle.cell_spec.proofs.Parts.{size_of, cell_size, row_size}
-use Rattle.cell_spec.specs.Strides.{box_size}
+use Rattle.std.proofs.Common.{◌≡◌, ◌∙◌, suc, ◌-◌, ◌+◌, get_or, refl, to_z-of_z, SFits, w64, arith, rules, add-zero}
+use Rattle.std.proofs.Math.Nat.{zero-mul, add-mul, one-mul}
 use Rattle.cell_spec.specs.Rows.{placed, written}
-use lib.ListN.{get_or}
-use native.Mathlib.Nat.{zero-mul, add-zero, add-mul, one-mul}
-use native.Mathlib.Omega.{arith}
-use mathlib.Core.Path.{◌≡◌, ◌∙◌, refl}
-use Prim.Native.Nat.{suc, ◌<◌, ◌-◌, ◌+◌}
-use borrow.Author.Rules.{rules}
+use Rattle.cell_spec.specs.Strides.{box_size}
+use Rattle.cell_spec.proofs.Parts.{size_of, cell_size, row_size}
+use Rattle.cell_spec.proofs.Summing.{sums_part, sums_more, sums_reads, row_sums_fit, row_sums_lem, one_sum}
 use Rattle.cell_pair.proofs.summing.+sum_box.Goals as goal
 
 pub returns-then-m-eq0 : goal.returns-then-m-eq0
 returns-then-m-eq0 t c =
     let q = c.if-m-eq0.true in
-    let r = c.put.ensures in
-    let b = c.sum_points-both.ensures in
-    (cell_size _ _ _ q, rw (r.0, b.0) (one_sum _ _ _ _ _ _ _ _ _ _ q), rw (r.1, b.1) (one_sum _ _ _ _ _ _ _ _ _ _ q))
+    let r = c.sum_points-both in
+    let f : SFits w64 r.result.sum = search rules in
+    let h : SFits w64 r.result.count = search rules in (
+      cell_size _ _ _ q,
+      rw (to_z-of_z f, r.ensures.0) (one_sum _ _ _ _ _ _ _ _ _ _ q),
+      rw (to_z-of_z h, r.ensures.1) (one_sum _ _ _ _ _ _ _ _ _ _ q),
+    )
 
 pub sum_line-requires : goal.sum_line-requires
 sum_line-requires t c =
     let q = c.if-m-eq1.true in
     let x = row_sums_fit q c.requires.0 in
     let y = row_sums_fit q c.requires.1 in
-    (x.0, x.1, x.2, y.2)
+    ((x.0, x.1), x.2, y.2)
 
 pub returns-then-m-eq1 : goal.returns-then-m-eq1
 returns-then-m-eq1 t c =
@@ -32,53 +32,40 @@ returns-then-m-eq1 t c =
 
 pub loop-x-init : goal.loop-x-init
 unfolding written placed
-loop-x-init t c = (search rules, refl, refl, rw (zero-mul, add-zero), rw zero-mul, rw zero-mul)
+loop-x-init t c = (rw (zero-mul, add-zero) refl, rw zero-mul refl, rw zero-mul refl)
 
 pub overflow_mul-x : goal.overflow_mul-x
 overflow_mul-x t c =
     let q : c.args.m ≡ suc (c.args.m - 1) = omega (arith, c.if-m-eq0.false) in
-    let b = c.requires in
-    let x : c.loop-x.x < get_or c.args.extents.now c.args.d 0 = omega arith in
-    omega (arith, sums_reads _ _ q _ b.0 _ x)
+    omega (arith, sums_reads _ _ q _ c.requires.0 _ c.loop-x-test.true)
 
 pub overflow_add-at : goal.overflow_add-at
 overflow_add-at t c =
     let q : c.args.m ≡ suc (c.args.m - 1) = omega (arith, c.if-m-eq0.false) in
-    let b = c.requires in
-    let x : c.loop-x.x < get_or c.args.extents.now c.args.d 0 = omega arith in
-    omega (arith, sums_reads _ _ q _ b.0 _ x)
+    omega (arith, sums_reads _ _ q _ c.requires.0 _ c.loop-x-test.true)
 
-pub sum_box-r-requires : goal.sum_box-r-requires
-sum_box-r-requires t c =
+pub sum_box-size-requires : goal.sum_box-size-requires
+sum_box-size-requires t c =
     let q : c.args.m ≡ suc (c.args.m - 1) = omega (arith, c.if-m-eq0.false) in
-    let b = c.requires in
-    let x : c.loop-x.x < get_or c.args.extents.now c.args.d 0 = omega arith in
-    (omega arith, (rw (c.loop-x.invariant.1, c.loop-x.invariant.3) (sums_part _ _ q _ b.0 _ x), rw (c.loop-x.invariant.2, c.loop-x.invariant.3) (sums_part _ _ q _ b.1 _ x)))
+    (omega arith, (rw (c.loop-x.auto.work, c.loop-x.invariant.0) (sums_part _ _ q _ c.requires.0 _ c.loop-x-test.true), rw (c.loop-x.auto.counts, c.loop-x.invariant.0) (sums_part _ _ q _ c.requires.1 _ c.loop-x-test.true)))
 
 pub overflow_add-to : goal.overflow_add-to
 overflow_add-to t c =
     let q : c.args.m ≡ suc (c.args.m - 1) = omega (arith, c.if-m-eq0.false) in
-    let b = c.requires in
-    let x : c.loop-x.x < get_or c.args.extents.now c.args.d 0 = omega arith in
-    omega (arith, (sums_part _ _ q _ b.0 _ x).writes)
+    omega (arith, (sums_part _ _ q _ c.requires.0 _ c.loop-x-test.true).writes)
 
 pub loop-x-preserved : goal.loop-x-preserved
 loop-x-preserved t c =
     let q : c.args.m ≡ suc (c.args.m - 1) = omega (arith, c.if-m-eq0.false) in
-    let b = c.requires in
-    let x : c.loop-x.x < get_or c.args.extents.now c.args.d 0 = omega arith in
     let r = box_size c.args.extents.now (c.args.m - 1) (c.args.d + 1) in
-    let g = c.sum_box-r.ensures in (
-      search rules,
-      search rules,
-      search rules,
+    let g = c.sum_box-size.ensures in (
       omega (arith, g.0, add-mul c.loop-x.x 1 r, one-mul r),
-      rw (g.1, c.loop-x.invariant.3, c.loop-x.invariant.4) (sums_more _ _ q _ _ _ _ _ _ _ _),
-      rw (g.2, c.loop-x.invariant.3, c.loop-x.invariant.5) (sums_more _ _ q _ _ _ _ _ _ _ _),
+      rw (g.1, c.loop-x.invariant.0, c.loop-x.invariant.1) (sums_more _ _ q _ _ _ _ _ _ _ _),
+      rw (g.2, c.loop-x.invariant.0, c.loop-x.invariant.2) (sums_more _ _ q _ _ _ _ _ _ _ _),
     )
 
 pub returns : goal.returns
 returns t c =
     let q : c.args.m ≡ suc (c.args.m - 1) = omega (arith, c.if-m-eq0.false) in
     let x : c.loop-x.x ≡ get_or c.args.extents.now c.args.d 0 = omega arith in
-    rw (size_of _ q _) (omega (arith, rw x at c.loop-x.invariant.3), rw x at c.loop-x.invariant.4, rw x at c.loop-x.invariant.5)
+    rw (size_of _ q _) (omega (arith, rw x at c.loop-x.invariant.0), rw x at c.loop-x.invariant.1, rw x at c.loop-x.invariant.2)

@@ -1,20 +1,16 @@
--- `sum_box` meets its contract. The measure: the axes left. The loop's invariant: the sums and counts of the first x parts are written; e - x falls.
-use Rattle.cell_spec.specs.Strides.{box_size, box_sums}
-use Rattle.cell_spec.specs.Rows.{written}
+-- the sums and counts of the first x parts are written; the measure of the calls is the number of axes
+use Rattle.std.proofs.Common.{◌≡◌, ◌-◌, ◌+◌, ◌*◌}
 use Rattle.cube_spec.specs.Shots.{values, shots}
-use lib.ListN.{length}
-use mathlib.Core.Path.{◌≡◌}
-use Prim.Native.Nat.{◌≤◌, ◌-◌, ◌+◌, ◌*◌}
+use Rattle.cell_spec.specs.Rows.{written}
+use Rattle.cell_spec.specs.Strides.{box_size, box_sums}
 use Rattle.cell_pair.proofs.summing.+sum_box.Given as goal
 
 abbrev pub invariant-loop-x : goal.invariant-loop-x
-invariant-loop-x l = (l.x ≤ l.e)
-    × (length l.work ≡ length l.initial.work) × (length l.counts ≡ length l.initial.counts) × (l.to ≡ l.dst + l.x * box_size l.extents (l.m - 1) (l.d + 1))
-    × (l.work ≡ written l.initial.work l.dst (l.x * box_size l.extents (l.m - 1) (l.d + 1)) (box_sums (values l.array) l.extents l.strides l.m l.d l.at l.n l.step))
-    × (l.counts ≡ written l.initial.counts l.dst (l.x * box_size l.extents (l.m - 1) (l.d + 1)) (box_sums (shots l.array) l.extents l.strides l.m l.d l.at l.n l.step))
-
-abbrev pub decreases-loop-x : goal.decreases-loop-x
-decreases-loop-x l = l.e - l.x
+invariant-loop-x l =
+    let done = l.x * box_size l.extents (l.m - 1) (l.d + 1) in
+    (l.to ≡ l.dst + done)
+    × (l.work ≡ written l.initial.work l.dst done (box_sums (values l.array) l.extents l.strides l.m l.d l.at l.n l.step))
+    × (l.counts ≡ written l.initial.counts l.dst done (box_sums (shots l.array) l.extents l.strides l.m l.d l.at l.n l.step))
 
 abbrev pub decreases-sum_box : goal.decreases-sum_box
 decreases-sum_box l = l.m

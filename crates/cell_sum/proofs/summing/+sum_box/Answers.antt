@@ -35,8 +35,8 @@ overflow_add-at t c =
     let q : c.args.m ≡ suc (c.args.m - 1) = omega (arith, c.if-m-eq0.false) in
     omega (arith, sums_reads _ _ q _ c.requires _ c.loop-x-test.true)
 
-pub sum_box-to-requires : goal.sum_box-to-requires
-sum_box-to-requires t c =
+pub sum_box-size-requires : goal.sum_box-size-requires
+sum_box-size-requires t c =
     let q : c.args.m ≡ suc (c.args.m - 1) = omega (arith, c.if-m-eq0.false) in
     (omega arith, rw (c.loop-x.auto.work, c.loop-x.invariant.0) (sums_part _ _ q _ c.requires _ c.loop-x-test.true))
 
@@ -49,8 +49,8 @@ pub loop-x-preserved : goal.loop-x-preserved
 loop-x-preserved t c =
     let q : c.args.m ≡ suc (c.args.m - 1) = omega (arith, c.if-m-eq0.false) in
     let r = box_size c.args.extents.now (c.args.m - 1) (c.args.d + 1) in (
-      omega (arith, c.sum_box-to.ensures.0, add-mul c.loop-x.x 1 r, one-mul r),
-      rw (c.sum_box-to.ensures.1, c.loop-x.invariant.0, c.loop-x.invariant.1) (sums_more _ _ q _ _ _ _ _ _ _ _),
+      omega (arith, c.sum_box-size.ensures.0, add-mul c.loop-x.x 1 r, one-mul r),
+      rw (c.sum_box-size.ensures.1, c.loop-x.invariant.0, c.loop-x.invariant.1) (sums_more _ _ q _ _ _ _ _ _ _ _),
     )
 
 pub returns : goal.returns
