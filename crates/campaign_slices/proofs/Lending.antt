@@ -1,12 +1,24 @@
 -- Laws of a lent slice: what an entry's own checks and the slice's length make of it.
-use Prim.Native.Nat.{ℕ, zero, suc}
+use Prim.Native.Nat.{ℕ, zero, suc, ◌+◌, ◌≤◌}
 use mathlib.Core.Path.{◌≡◌, refl, sym, ap, ◌∙◌}
-use mathlib.Core.List.{List, []}
+use mathlib.Core.List.{List, [], ◌++◌}
+use native.Mathlib.Nat.{le_refl}
+use native.Mathlib.Omega.{arith}
 use borrow.Author.Tests.{eq-eqb, ne_eqb}
-use lib.ListN.{length}
+use borrow.Rule.Slice.PartMut.{put_mid}
+use lib.ListN.{length, take, drop}
+use lib.Seq.{sets, sets-eq, take_all}
+use Rattle.std.proofs.lemmas.Slice.{put_mid-paste}
 use Rattle.cube_spec.specs.Checks.{Check, first}
 use Rattle.cube_spec.proofs.Dues.{Numbered, first_due, first_passed}
 use Rattle.campaign_slices.specs.Lent.{lent_refusal, written_or}
+
+-- what a copy into a part of a slice leaves
+pub copied : (l ys vs : List ℕ) (at k : ℕ) → at + k ≤ length l → ys ≡ vs → length vs ≡ k → put_mid at k l ys ≡ sets l at vs
+copied l ys vs at k h e f =
+    put_mid-paste at k l ys vs (length vs) e f refl
+    ∙ ap (λ w. take at l ++ w ++ drop (at + length vs) l) (take_all (length vs) vs (le_refl _))
+    ∙ sym (sets-eq vs l at (omega arith))
 
 left_alone : {A : Type 0} (n : ℕ) (new old : List A) → (n ≡ 0 → ⊥) → written_or n new old ≡ old
 unfolding written_or
@@ -22,6 +34,11 @@ module _ {A : Type 0} (n : ℕ) (s new : List A) where
   pub right : length s ≡ n → (w : List A) → w ≡ new → (0 ≡ lent_refusal [] n (length s)) × (w ≡ written_or 0 new s)
   unfolding lent_refusal first written_or
   right h w e = rw (eq-eqb (length s) n h) (refl, e)
+
+-- the cells that are put, by another name
+pub put_as : (a b s w : List ℕ) (r n : ℕ) → a ≡ b → length b ≡ n → (r ≡ lent_refusal [] (length a) (length s)) × (w ≡ written_or r a s)
+    → (r ≡ lent_refusal [] n (length s)) × (w ≡ written_or r b s)
+put_as a b s w r n e f h = rw (e, f) at h
 
 -- the refusal of some checks and of a slice, and the slice afterwards
 module _ {A : Type 0} (checks : List Check) (n : ℕ) (s : List A) where

@@ -5,13 +5,14 @@ use mathlib.Core.List.{List, [], ◌∷◌, ◌++◌, append-nil}
 use native.Mathlib.Omega.{arith}
 use borrow.Author.Tests.{eqb-true, eqb-false, eq-eqb, ne_eqb, lt-ltb, le-ltb}
 use lib.Dec.{eqb}
+use borrow.Rule.Slice.PartMut.{put_mid}
 use lib.ListN.{length, take, drop, set, get_or, length-drop, length-append, length-set, drop_of_length-le}
-use lib.Seq.{sets, sets-eq, length-sets, take_all, length-take-le, get_or-drop, take-append_seam, drop-append_seam}
+use lib.Seq.{sets, sets-eq, length-sets, take_all, length-take-le, take-append_seam, drop-append_seam}
 use Rattle.cube_spec.specs.Checks.{check, first, gives, refuses}
 use Rattle.cube_spec.proofs.Sums.{by}
 use Rattle.cube_spec.proofs.Dues.{Numbered}
 use Rattle.cube_spec.proofs.Slots.{padded_length}
-use Rattle.cube_spec.proofs.Stores.{joined, next}
+use Rattle.cube_spec.proofs.Stores.{joined}
 use Rattle.plan_spec.specs.declared.types.Plan.{Plan}
 use Rattle.plan_spec.specs.declared.types.Marked.{Marked}
 use Rattle.plan_spec.specs.Plans.{step_count, lists_of, slotted}
@@ -26,25 +27,13 @@ use Rattle.rack_spec.specs.Finding.{plan_grid}
 use Rattle.rack_spec.specs.Answers.{Told, told_at, past_end, held_checks, held_refusal, holding, counting}
 use Rattle.campaign_slices.specs.Lent.{lent_refusal, written_or}
 use Rattle.campaign_slices.specs.Racks.{no_plan, plan_from, bytes_of, price_refusal, count_refusal, at_checks, at_refusal, hold_refusal, cells_told, cells_priced, mark_cell, priced, counted, stepped_at, held}
-use Rattle.campaign_slices.proofs.Lending.{refused, passed}
+use Rattle.campaign_slices.proofs.Lending.{copied, refused, passed}
 
 -- ---- copies
 
 -- all cells of a list
 all : (s l : List ℕ) → length l ≡ length s → sets s 0 l ≡ l
 all s l h = sets-eq l s 0 (omega arith) ∙ rw (drop_of_length-le s {i = 0 + length l} (omega arith), append-nil l)
-
-pub all_taken : (s l : List ℕ) (i : ℕ) → length s ≤ i → length l ≡ length s → sets s 0 (take i l) ≡ l
-all_taken s l i h e = rw (take_all i l (omega arith)) (all s l e)
-
--- one cell more of a part of a list
-pub next_from : (s l : List ℕ) (from i : ℕ) → from + i < length l
-    → set (sets s 0 (take i (drop from l))) i (get_or l (from + i) 0) ≡ sets s 0 (take (i + 1) (drop from l))
-next_from s l from i h = rw (← get_or-drop from l i 0) (next s (drop from l) i (rw (length-drop from l) (omega arith)))
-
-pub all_from : (s l : List ℕ) (from i : ℕ) → i ≡ length s → from + length s ≤ length l → sets s 0 (take i (drop from l)) ≡ take (length s) (drop from l)
-all_from s l from i h e =
-    rw h (all s (take (length s) (drop from l)) (length-take-le (length s) (drop from l) (rw (length-drop from l) (omega arith))))
 
 -- ---- the plan
 
@@ -80,18 +69,22 @@ from_slots small lengths =
         subst HasSlots (plan_is small lengths h k _ _ _ refl refl refl) (k, (length-take-le 8 (drop 2 small) (omega arith), length-take-le 8 (drop 10 small) (omega arith)))
 
 -- and back
-pub put_length : (s o e : List ℕ) (a b : ℕ) → length (sets (sets (set (set s 0 a) 1 b) 2 o) 10 e) ≡ length s
-put_length s o e a b =
-    length-sets (sets (set (set s 0 a) 1 b) 2 o) 10 e ∙ length-sets (set (set s 0 a) 1 b) 2 o ∙ length-set (set s 0 a) 1 b ∙ length-set s 0 a
-
 module _ (q : Plan) (eight : length q.order ≡ 8) (cut : length q.exponents ≡ 8) where
-  pub put_is : (s : List ℕ) → length s ≡ 18 → sets (sets (set (set s 0 q.axes) 1 q.p) 2 q.order) 10 q.exponents ≡ bytes_of q
+  stored : (s : List ℕ) → length s ≡ 18 → sets (sets (set (set s 0 q.axes) 1 q.p) 2 q.order) 10 q.exponents ≡ bytes_of q
   unfolding bytes_of
-  put_is s h =
+  stored s h =
       let l = length-append q.order q.exponents in
       let j = joined (set (set s 0 q.axes) 1 q.p) 2 q.order q.exponents in
       let n : 2 + length q.order ≡ 10 = omega arith in
       rw n at (sym j) ∙ all s (q.axes ∷ q.p ∷ (q.order ++ q.exponents)) (omega arith)
+
+  pub put_is : (s o e : List ℕ) → length s ≡ 18 → o ≡ q.order → e ≡ q.exponents → put_mid 10 8 (put_mid 2 8 (set (set s 0 q.axes) 1 q.p) o) e ≡ bytes_of q
+  put_is s o e h eo ee =
+      let m = length-set s 0 q.axes in
+      let n = length-set (set s 0 q.axes) 1 q.p in
+      let l = length-sets (set (set s 0 q.axes) 1 q.p) 2 q.order in
+      let first = copied (set (set s 0 q.axes) 1 q.p) o q.order 2 8 (omega arith) eo eight in
+      rw first (copied _ e q.exponents 10 8 (omega arith) ee cut ∙ stored s h)
 
   -- what is put is the plan that is taken
   pub taken_back : length q.lengths ≡ 8 → plan_from (bytes_of q) q.lengths ≡ q
@@ -104,20 +97,6 @@ module _ (q : Plan) (eight : length q.order ≡ 8) (cut : length q.exponents ≡
       let c : take 8 q.exponents ≡ q.exponents = take_all 8 q.exponents (omega arith) in
       rw (eq-eqb (suc (suc (length (q.order ++ q.exponents)))) 18 n, eq-eqb (length q.lengths) 8 k, a, b, c)
 
-pub two_cells : (s : List ℕ) (a b : ℕ) → length s ≡ 2 → set (set s 0 a) 1 b ≡ a ∷ b ∷ []
-two_cells [] a b h = absurd (omega arith)
-two_cells (x ∷ []) a b h = absurd (omega arith)
-two_cells (x ∷ y ∷ []) a b h = refl
-two_cells (x ∷ y ∷ z ∷ s) a b h = absurd (omega arith)
-
-pub three_cells : (s : List ℕ) (a b c : ℕ) → length s ≡ 3 → set (set (set s 0 a) 1 b) 2 c ≡ a ∷ b ∷ c ∷ []
-three_cells [] a b c h = absurd (omega arith)
-three_cells (x ∷ s) a b c h = ap (λ (l : List ℕ). a ∷ l) (two_cells s b c (omega arith))
-
-pub four_cells : (s : List ℕ) (a b c d : ℕ) → length s ≡ 4 → set (set (set (set s 0 a) 1 b) 2 c) 3 d ≡ a ∷ b ∷ c ∷ d ∷ []
-four_cells [] a b c d h = absurd (omega arith)
-four_cells (x ∷ s) a b c d h = ap (λ (l : List ℕ). a ∷ l) (three_cells s b c d (omega arith))
-
 -- ---- the refusals
 
 held_numbered : (q : Plan) (at b : ℕ) → Numbered (held_checks q at b)
@@ -127,11 +106,6 @@ held_numbered q at b = (omega arith, (omega arith, (omega arith, (omega arith, (
 at_numbered : (q : Plan) (at : ℕ) → Numbered (at_checks q at)
 unfolding at_checks plan_checks length_checks
 at_numbered q at = (omega arith, (omega arith, (omega arith, (omega arith, (omega arith, (omega arith, (omega arith, tt)))))))
-
-pub one_cell : (s : List ℕ) (n : ℕ) → length s ≡ 1 → set s 0 n ≡ n ∷ []
-one_cell [] n h = absurd (omega arith)
-one_cell (x ∷ []) n h = refl
-one_cell (x ∷ y ∷ s) n h = absurd (omega arith)
 
 -- ---- the entries, of the plan q in the slices
 

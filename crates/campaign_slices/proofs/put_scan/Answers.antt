@@ -1,9 +1,10 @@
 -- `campaign_slices::put_scan` meets its contract. The stores are the cells of the scan, one after the other.
-use mathlib.Core.Path.{◌∙◌}
+use Rattle.std.proofs.Common.{◌≡◌, ◌∙◌, rules}
+use Rattle.std.proofs.lemmas.Grind.{same_number_lists}
 use Rattle.campaign_slices.proofs.Laws as laws
-use borrow.Author.Rules.{rules}
 use Rattle.campaign_slices.proofs.put_scan.Goals as goal
 
 pub returns : goal.returns
 returns c =
-    c.put.ensures ∙ laws.all_cells c.args.out.now c.args.found c.requires (search rules)
+    let wide : c.map.result ≡ c.args.found.lengths = same_number_lists _ _ (search rules) (λ k h. search rules) in
+    laws.scan_put _ c.args.found _ _ _ c.requires (search rules) c.from.ensures c.from-2.ensures (c.copy_from_slice.ensures.after ∙ wide)
