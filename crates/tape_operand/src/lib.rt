@@ -1,4 +1,5 @@
-// The operands of a command: numbers of two and of four bytes, the lowest byte first.
+// The operands of a command: numbers of two and of four bytes, the lowest byte first. Each is one call of the library at its own type, so a generic
+// function would have nothing to hold.
 #![tactic(auto)]
 
 ghost use Rattle.std.specs.Prelude.{◌≡◌, ◌+◌, ◌≤◌, length, take, drop};

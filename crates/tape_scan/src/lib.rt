@@ -34,6 +34,7 @@ fn count(tape: &[u8], start: usize, before: u64) -> Result<Count, Refusal>
     let mut read = before;
     let mut judged = Ok(());
     let mut at = start;
+    // A command says where the next begins, so the position is no range's.
     while let Some(command) = decode(tape, at) {
         read += 1;
         match command {
