@@ -10,10 +10,7 @@ fn put_row(res: &mut [i64], work: &[i64], src: usize, at: usize, n: usize)
     requires { (at + n ≤ length res.old) × (src + n ≤ length work.now) }
     ensures { res.new ≡ written res.old at n (from work.now src) }
 {
-    for i in 0..n {
-        let x = work[src + i];
-        res[at + i] = x;
-    }
+    res[at..at + n].copy_from_slice(&work[src..src + n]);
 }
 
 // Copies n cells to places that stand step apart.
@@ -22,8 +19,7 @@ fn put_every(res: &mut [i64], work: &[i64], src: usize, at: usize, step: usize, 
     ensures { res.new ≡ placed res.old n (λ i. at + i * step) (from work.now src) }
 {
     for i in 0..n {
-        let x = work[src + i];
-        res[at + i * step] = x;
+        res[at + i * step] = work[src + i];
     }
 }
 
@@ -79,8 +75,7 @@ pub fn put_box(
         (box_place extents.now strides.now m d at) (from work.now src)) }
 {
     if m == 0 {
-        let x = work[src];
-        res[at] = x;
+        res[at] = work[src];
         return 1;
     }
     let e = extents[d];
@@ -96,7 +91,7 @@ pub fn put_box(
     for x in 0..e {
         let first = at + x * t;
         let r = put_box(res, work, extents, strides, m - 1, d + 1, first, next);
-        next = next + r;
+        next += r;
     }
     next - src
 }

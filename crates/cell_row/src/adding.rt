@@ -9,9 +9,7 @@ pub fn clear(work: &mut [i64], at: usize, n: usize)
     requires { at + n ≤ length work.old }
     ensures { work.new ≡ written work.old at n zeros }
 {
-    for i in 0..n {
-        work[at + i] = 0;
-    }
+    work[at..at + n].fill(0);
 }
 
 // Adds n values that are neighbours to n cells.

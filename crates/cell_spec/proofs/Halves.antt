@@ -1,10 +1,11 @@
 -- A slice that was cut in two, and written in one of the parts.
-use Rattle.std.proofs.Common.{◌≡◌, ℕ, zero, suc, ◌+◌, ◌-◌, ◌<◌, ◌≤◌, List, length, set, take, drop, ◌++◌, ℤ, pos, ◌+ℤ◌, sym, refl, ap, ap₂, ◌∙◌, arith, add-zero}
-use Rattle.std.proofs.lemmas.List.{take-append-drop, set-append_left, set-append_right, get_or-take, get_or-drop, length-take}
+use Rattle.std.proofs.Common.{◌≡◌, ℕ, zero, suc, ◌+◌, ◌-◌, ◌<◌, ◌≤◌, List, length, get_or, set, take, drop, ◌++◌, ℤ, pos, ◌+ℤ◌, sym, refl, ap, ap₂, ◌∙◌, arith, add-zero, zero-add, ◌⊎◌, inl, inr, length-drop, length-take-le}
+use Rattle.std.proofs.lemmas.List.{take-append-drop, set-append_left, set-append_right, get_or-take, get_or-drop, length-take, get_or_past}
+use borrow.Rule.Slice.PartMut.{put_mid}
 use Rattle.cell_spec.specs.Rows.{from, placed, written, added_to}
 use Rattle.cell_spec.specs.Wrapped.{wrapped}
 use Rattle.cell_spec.proofs.Placing.{length_placed}
-use Rattle.cell_spec.proofs.Writing.{same}
+use Rattle.cell_spec.proofs.Writing.{same, is_written}
 
 placed_right : (u v : List ℤ) (m n : ℕ) (f : ℕ → ℤ) (at : ℕ) → length u ≡ m → placed (u ++ v) n (λ i. m + at + i) f ≡ u ++ placed v n (λ i. at + i) f
 unfolding placed
@@ -52,3 +53,21 @@ pub added_left : (w : List ℤ) (src dst n : ℕ) → src ≤ length w → dst +
 unfolding added_to
 added_left w src dst n h k =
     written_left w src dst n _ h k ∙ same w dst n _ _ (λ i l. ap₂ (λ a b. wrapped (a +ℤ b)) (from_left w src dst i (omega arith)) (from_right w src 0 i ∙ rw add-zero refl))
+
+-- a part that was filled as a whole
+filled : (w l : List ℤ) (n : ℕ) (f : ℕ → ℤ) → length w ≡ n → length l ≡ n → ((i : ℕ) → i < n → get_or l i (pos 0) ≡ f i) → l ≡ written w 0 n f
+filled w l n f p q h = is_written w l 0 n f (q ∙ sym p) (omega (arith, p)) (λ i k. rw zero-add (h i k)) past
+  where
+    past : (j : ℕ) → (j < 0) ⊎ (0 + n ≤ j) → get_or l j (pos 0) ≡ get_or w j (pos 0)
+    past j (inl k) = absurd (omega arith)
+    past j (inr k) = get_or_past l j (pos 0) (omega (arith, q)) ∙ sym (get_or_past w j (pos 0) (omega (arith, p)))
+
+pub put_written : (w l : List ℤ) (at n : ℕ) (f : ℕ → ℤ) → at + n ≤ length w → length l ≡ n → ((i : ℕ) → i < n → get_or l i (pos 0) ≡ f i)
+    → put_mid at n w l ≡ written w at n f
+put_written w l at n f b q h =
+    let v = drop at w in
+    let r : n ≤ length v = omega (arith, length-drop at w) in
+    ap (λ x. take at w ++ (x ++ drop n v)) (filled (take n v) l n f (length-take-le n v r) q h)
+    ∙ ap (λ x. take at w ++ x) (written_left v n 0 n f r (omega arith))
+    ∙ written_right w at 0 n f (omega arith)
+    ∙ rw add-zero refl

@@ -27,9 +27,7 @@ pub fn merge(extents: &mut [usize], strides: &mut [usize], n: usize) -> usize
     ensures { Merged extents.old strides.old extents.new strides.new n result }
 {
     let mut k = n;
-    let mut d = n;
-    while 0 < d {
-        d -= 1;
+    for d in (0..n).rev() {
         k -= 1;
         // Axis d goes before the merged ones; d <= k, so no axis still to come is overwritten.
         extents[k] = extents[d];

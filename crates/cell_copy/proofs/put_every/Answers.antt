@@ -1,22 +1,15 @@
-use Prim.Native.Nat.{◌-◌, ◌+◌, ◌*◌}
-use mathlib.Core.Path.{refl}
-use lib.ListN.{get_or}
-use lib.IntN.{pos}
-use mir.Facts.{to_z-of_z}
-use mir.Val.{SFits}
-use mir.Syntax.{w64}
+use Rattle.std.proofs.Common.{◌+◌, ◌*◌, get_or, pos, refl, SFits, w64, to_z-of_z, rules}
 use Rattle.cell_spec.specs.Rows.{from, placed}
 use Rattle.cell_spec.proofs.Placing.{placed_more}
-use borrow.Author.Rules.{rules}
 use Rattle.cell_copy.proofs.put_every.Goals as goal
 
 pub loop-i-init : goal.loop-i-init
 unfolding placed
-loop-i-init c = (search rules, refl, refl)
+loop-i-init c = refl
 
 pub loop-i-preserved : goal.loop-i-preserved
 unfolding from
 loop-i-preserved c =
     let a = c.args in
-    let f : SFits w64 (get_or a.work.now (a.src + c.loop-i.i) (pos 0)) = record { sfits = c.x-1.given } in
-    (search rules, search rules, rw (to_z-of_z f, c.loop-i.invariant.2) (placed_more _ _ (λ i. a.at + i * a.step) _ _ refl))
+    let f : SFits w64 (get_or a.work.now (a.src + c.loop-i.i) (pos 0)) = search rules in
+    rw (to_z-of_z f, c.loop-i.invariant) (placed_more _ _ (λ i. a.at + i * a.step) _ _ refl)

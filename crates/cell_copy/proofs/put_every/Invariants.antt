@@ -1,12 +1,7 @@
--- `put_every` meets its contract. The invariant: the first i cells are copied.
-use Prim.Native.Nat.{◌≤◌, ◌-◌, ◌+◌, ◌*◌}
-use mathlib.Core.Path.{◌≡◌}
-use lib.ListN.{length}
+-- the first i cells are copied
+use Rattle.std.proofs.Common.{◌≡◌, ◌+◌, ◌*◌}
 use Rattle.cell_spec.specs.Rows.{from, placed}
 use Rattle.cell_copy.proofs.put_every.Given as goal
 
 abbrev pub invariant-loop-i : goal.invariant-loop-i
-invariant-loop-i l = (l.i ≤ l.n) × (length l.res ≡ length l.initial.res) × (l.res ≡ placed l.initial.res l.i (λ i. l.at + i * l.step) (from l.work l.src))
-
-abbrev pub decreases-loop-i : goal.decreases-loop-i
-decreases-loop-i l = l.n - l.i
+invariant-loop-i l = l.res ≡ placed l.initial.res l.i (λ i. l.at + i * l.step) (from l.work l.src)

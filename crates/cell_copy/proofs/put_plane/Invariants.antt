@@ -1,13 +1,8 @@
--- `put_plane` meets its contract. The invariant: the first rows are copied.
-use Prim.Native.Nat.{◌≤◌, ◌-◌, ◌+◌, ◌*◌}
-use mathlib.Core.Path.{◌≡◌}
-use lib.ListN.{length, get_or}
+-- the first rows are copied
+use Rattle.std.proofs.Common.{◌≡◌, ◌+◌, ◌*◌, get_or}
 use Rattle.cell_spec.specs.Rows.{from, placed}
 use Rattle.cell_spec.specs.Strides.{box_place}
 use Rattle.cell_copy.proofs.put_plane.Given as goal
 
 abbrev pub invariant-loop-row : goal.invariant-loop-row
-invariant-loop-row l = (l.row ≤ l.e) × (length l.res ≡ length l.initial.res) × (l.res ≡ placed l.initial.res (l.row * get_or l.extents (l.d + 1) 0) (box_place l.extents l.strides 2 l.d l.at) (from l.work l.src))
-
-abbrev pub decreases-loop-row : goal.decreases-loop-row
-decreases-loop-row l = l.e - l.row
+invariant-loop-row l = l.res ≡ placed l.initial.res (l.row * get_or l.extents (l.d + 1) 0) (box_place l.extents l.strides 2 l.d l.at) (from l.work l.src)

@@ -4,6 +4,3 @@ use Rattle.run_merge.proofs.merging.merge.Given as goal
 
 abbrev pub invariant-loop-d : goal.invariant-loop-d
 invariant-loop-d l = MergedTo l.initial.extents l.initial.strides l.extents l.strides l.n l.d l.k
-
-abbrev pub decreases-loop-d : goal.decreases-loop-d
-decreases-loop-d l = l.d
