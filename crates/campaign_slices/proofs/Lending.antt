@@ -9,7 +9,11 @@ use borrow.Rule.Slice.PartMut.{put_mid}
 use lib.ListN.{length, take, drop}
 use lib.Seq.{sets, sets-eq, take_all}
 use Rattle.std.proofs.lemmas.Slice.{put_mid-paste}
-use Rattle.cube_spec.specs.Checks.{Check, first}
+use Rattle.cube_spec.specs.Checks.{Check, first, gives, refuses, answered}
+use Rattle.cube_spec.proofs.Answered.{gives_is, refuses_is, refuses_some}
+use Rattle.cube_spec.specs.Refusals.{number_of}
+use Rattle.cube_spec.specs.declared.refusals.Refusal.{Refusal}
+use Rattle.cube_spec.proofs.Numbers.{number_positive}
 use Rattle.cube_spec.proofs.Dues.{Numbered, first_due, first_passed}
 use Rattle.campaign_slices.specs.Lent.{lent_refusal, written_or}
 
@@ -19,6 +23,10 @@ copied l ys vs at k h e f =
     put_mid-paste at k l ys vs (length vs) e f refl
     ∙ ap (λ w. take at l ++ w ++ drop (at + length vs) l) (take_all (length vs) vs (le_refl _))
     ∙ sym (sets-eq vs l at (omega arith))
+
+-- a refusal is some number
+pub some : (x : Refusal) → number_of x ≡ 0 → ⊥
+some x z = let p = number_positive x in omega arith
 
 left_alone : {A : Type 0} (n : ℕ) (new old : List A) → (n ≡ 0 → ⊥) → written_or n new old ≡ old
 unfolding written_or
@@ -65,3 +73,16 @@ module _ {A : Type 0} (checks : List Check) (n : ℕ) (s : List A) where
 
     pub right_after : length s ≡ n → (w : List A) → w ≡ new → (0 ≡ lent) × (w ≡ written_or lent new s)
     right_after h w q = let r = right n s new h w q in passed p e 0 new w r.0 r.1
+
+-- what an entry answers by its checks, told in cells: the refusal, and the answer
+module _ {A : Type 0} (checks : List Check) (n : ℕ) (s : List ℕ) (v : A) (cells : A → List ℕ) where
+  pub not_told : (k : ℕ) → refuses k ≡ answered (first checks) v
+      → (k ≡ lent_refusal checks n (length s)) × (s ≡ written_or (lent_refusal checks n (length s)) (cells v) s)
+  not_told k h = refused checks n s k (refuses_is (first checks) k v h) (refuses_some (first checks) k v h) (cells v)
+
+  pub told : Numbered checks → (a : A) → gives a ≡ answered (first checks) v → (r : ℕ) (w : List ℕ)
+      → (r ≡ lent_refusal [] n (length s)) × (w ≡ written_or r (cells a) s)
+      → (r ≡ lent_refusal checks n (length s)) × (w ≡ written_or (lent_refusal checks n (length s)) (cells v) s)
+  told p a h r w e =
+      let g = gives_is (first checks) v a h in
+      passed checks n s p g.0 r (cells v) w e.0 (e.1 ∙ ap (λ x. written_or r (cells x) s) g.1)

@@ -1,6 +1,6 @@
 -- Laws of the cells of a search, and of its refusals with a lent slice.
 use Prim.Native.Nat.{ℕ, suc, ◌+◌}
-use mathlib.Core.Path.{◌≡◌, refl, ap, ◌∙◌}
+use mathlib.Core.Path.{◌≡◌, refl, ◌∙◌}
 use mathlib.Core.List.{List, [], ◌∷◌, append-nil}
 use native.Mathlib.Omega.{arith}
 use borrow.Rule.Slice.PartMut.{put_mid}
@@ -8,10 +8,8 @@ use lib.ListN.{length, replicate, set, drop_of_length-le}
 use lib.Seq.{sets, sets-eq}
 use Rattle.cube_spec.specs.Checks.{gives, refuses}
 use Rattle.cube_spec.specs.Limits.{axis_limit}
-use Rattle.cube_spec.proofs.Answered.{refuses_is, refuses_some}
 use Rattle.link_spec.specs.declared.types.Searched.{Searched}
 use Rattle.link_spec.specs.Search.{search, search_checks, search_refusal, searched_of, searching}
-use Rattle.link_spec.proofs.Anytime.{found_is}
 use Rattle.link_spec.proofs.Deciding.{search_numbered}
 use Rattle.campaign_slices.specs.Lent.{lent_refusal, written_or}
 use Rattle.campaign_slices.specs.Links.{search_cells, cells_searched, searched_in, lent_search_refusal, lent_search}
@@ -42,12 +40,9 @@ module _ (ds : List ℕ) (p : ℕ) (links : List ℕ) (budget : ℕ) where
 
   pub refused : (n : ℕ) → refuses n ≡ searching ds p links budget → (out : List ℕ) → (n ≡ lent_search_refusal ds p links budget (length out)) × (out ≡ lent_search ds p links budget out)
   unfolding lent_search_refusal lent_search search_refusal searching
-  refused n e out = lending.refused (search_checks ds p links budget) search_cells out n (refuses_is _ n answer e) (refuses_some _ n answer e) _
+  refused n e out = lending.not_told (search_checks ds p links budget) search_cells out answer cells_searched n e
 
-  pub given : (f : Searched) → gives f ≡ searching ds p links budget → (r : ℕ) (out w : List ℕ) → r ≡ lent_refusal [] search_cells (length out) → w ≡ written_or r (cells_searched f) out
+  pub given : (f : Searched) → gives f ≡ searching ds p links budget → (r : ℕ) (out w : List ℕ) → (r ≡ lent_refusal [] search_cells (length out)) × (w ≡ written_or r (cells_searched f) out)
       → (r ≡ lent_search_refusal ds p links budget (length out)) × (w ≡ lent_search ds p links budget out)
-  unfolding lent_search_refusal lent_search search_refusal
-  given f e r out w er ew =
-      let g = found_is ds p links budget f e in
-      let c = ap (λ (x : Searched). written_or r (cells_searched x) out) g.1 in
-      lending.passed (search_checks ds p links budget) search_cells out (search_numbered ds p links budget) g.0 r _ w er (ew ∙ c)
+  unfolding lent_search_refusal lent_search search_refusal searching
+  given f e r out w h = lending.told (search_checks ds p links budget) search_cells out answer cells_searched (search_numbered ds p links budget) f e r w h

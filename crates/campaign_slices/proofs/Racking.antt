@@ -9,6 +9,8 @@ use borrow.Rule.Slice.PartMut.{put_mid}
 use lib.ListN.{length, take, drop, set, get_or, length-drop, length-append, length-set, drop_of_length-le}
 use lib.Seq.{sets, sets-eq, length-sets, take_all, length-take-le, take-append_seam, drop-append_seam}
 use Rattle.cube_spec.specs.Checks.{check, first, gives, refuses}
+use Rattle.cube_spec.specs.Refusals.{number_of}
+use Rattle.cube_spec.specs.declared.refusals.Refusal.{Refusal}
 use Rattle.cube_spec.proofs.Sums.{by}
 use Rattle.cube_spec.proofs.Dues.{Numbered}
 use Rattle.cube_spec.proofs.Slots.{padded_length}
@@ -19,7 +21,6 @@ use Rattle.plan_spec.specs.Plans.{step_count, lists_of, slotted}
 use Rattle.plan_spec.specs.Accepted.{HasSlots}
 use Rattle.plan_spec.specs.Refusals.{plan_checks, length_checks, plan_refusal}
 use Rattle.plan_spec.specs.Answers.{marked_of, pricing}
-use Rattle.plan_spec.proofs.PricingLaws.{given_is, refused_is}
 use Rattle.rack_spec.specs.Steps.{steps}
 use Rattle.rack_spec.proofs.Refusing.{plan_numbered, plan_due, plan_passed}
 use Rattle.rack_spec.specs.Held as Held
@@ -27,7 +28,7 @@ use Rattle.rack_spec.specs.Finding.{plan_grid}
 use Rattle.rack_spec.specs.Answers.{Told, told_at, past_end, held_checks, held_refusal, holding, counting}
 use Rattle.campaign_slices.specs.Lent.{lent_refusal, written_or}
 use Rattle.campaign_slices.specs.Racks.{no_plan, plan_from, bytes_of, price_refusal, count_refusal, at_checks, at_refusal, hold_refusal, cells_told, cells_priced, mark_cell, priced, counted, stepped_at, held}
-use Rattle.campaign_slices.proofs.Lending.{copied, refused, passed}
+use Rattle.campaign_slices.proofs.Lending.{copied, some, refused, passed, told, not_told}
 
 -- ---- copies
 
@@ -107,73 +108,61 @@ at_numbered : (q : Plan) (at : ℕ) → Numbered (at_checks q at)
 unfolding at_checks plan_checks length_checks
 at_numbered q at = (omega arith, (omega arith, (omega arith, (omega arith, (omega arith, (omega arith, (omega arith, tt)))))))
 
--- ---- the entries, of the plan q in the slices
+-- ---- the entries: a refusal, and the cells of an answer that are put
 
-module _ (g q : Plan) (e : g ≡ q) (s : List ℕ) where
-  module _ (r : ℕ) (w : List ℕ) (er : r ≡ lent_refusal [] 1 (length s)) where
-    pub count_given : (n : ℕ) → gives n ≡ counting g → w ≡ written_or r (n ∷ []) s → (r ≡ count_refusal q (length s)) × (w ≡ counted q s)
-    unfolding counting plan_refusal count_refusal counted
-    count_given n h ew =
-        let a = given_is (first (plan_checks q)) (step_count (lists_of q)) n (h ∙ ap counting e) in
-        passed (plan_checks q) 1 s (plan_numbered q) a.0 r _ w er (ew ∙ ap (λ x. written_or r (x ∷ []) s) a.1)
-
-    pub held_given : (at b n : ℕ) → gives n ≡ holding g at b → w ≡ written_or r (n ∷ []) s → (r ≡ hold_refusal q at b (length s)) × (w ≡ held q at b s)
-    unfolding holding held_refusal hold_refusal held
-    held_given at b n h ew =
-        let a = given_is (first (held_checks q at b)) (Held.held (plan_grid q) at b) n (h ∙ ap (λ x. holding x at b) e) in
-        passed (held_checks q at b) 1 s (held_numbered q at b) a.0 r _ w er (ew ∙ ap (λ x. written_or r (x ∷ []) s) a.1)
-
-  pub count_refused : (k : ℕ) → refuses k ≡ counting g → (k ≡ count_refusal q (length s)) × (s ≡ counted q s)
+module _ (q : Plan) (s : List ℕ) where
+  pub count_refused : (k : ℕ) → refuses k ≡ counting q → (k ≡ count_refusal q (length s)) × (s ≡ counted q s)
   unfolding counting plan_refusal count_refusal counted
-  count_refused k h =
-      let a = refused_is (first (plan_checks q)) (step_count (lists_of q)) k (h ∙ ap counting e) in
-      refused (plan_checks q) 1 s k a.0 a.1 _
+  count_refused k h = not_told (plan_checks q) 1 s (step_count (lists_of q)) (λ n. n ∷ []) k h
 
-  pub held_refused : (at b k : ℕ) → refuses k ≡ holding g at b → (k ≡ hold_refusal q at b (length s)) × (s ≡ held q at b s)
+  pub count_given : (n : ℕ) → gives n ≡ counting q → (r : ℕ) (w : List ℕ) → (r ≡ lent_refusal [] 1 (length s)) × (w ≡ written_or r (n ∷ []) s)
+      → (r ≡ count_refusal q (length s)) × (w ≡ counted q s)
+  unfolding counting plan_refusal count_refusal counted
+  count_given n h r w e = told (plan_checks q) 1 s (step_count (lists_of q)) (λ n. n ∷ []) (plan_numbered q) n h r w e
+
+  pub held_refused : (at b k : ℕ) → refuses k ≡ holding q at b → (k ≡ hold_refusal q at b (length s)) × (s ≡ held q at b s)
   unfolding holding held_refusal hold_refusal held
-  held_refused at b k h =
-      let a = refused_is (first (held_checks q at b)) (Held.held (plan_grid q) at b) k (h ∙ ap (λ x. holding x at b) e) in
-      refused (held_checks q at b) 1 s k a.0 a.1 _
+  held_refused at b k h = not_told (held_checks q at b) 1 s (Held.held (plan_grid q) at b) (λ n. n ∷ []) k h
 
-  pub price_refused : (k : ℕ) → refuses k ≡ pricing g → (k ≡ price_refusal q (length s)) × (s ≡ priced q s)
+  pub held_given : (at b n : ℕ) → gives n ≡ holding q at b → (r : ℕ) (w : List ℕ) → (r ≡ lent_refusal [] 1 (length s)) × (w ≡ written_or r (n ∷ []) s)
+      → (r ≡ hold_refusal q at b (length s)) × (w ≡ held q at b s)
+  unfolding holding held_refusal hold_refusal held
+  held_given at b n h r w e = told (held_checks q at b) 1 s (Held.held (plan_grid q) at b) (λ n. n ∷ []) (held_numbered q at b) n h r w e
+
+  abbrev marked_cells : Marked → List ℕ
+  marked_cells m = cells_priced m.prices (mark_cell m.fewest)
+
+  pub price_refused : (k : ℕ) → refuses k ≡ pricing q → (k ≡ price_refusal q (length s)) × (s ≡ priced q s)
   unfolding pricing plan_refusal price_refusal priced
-  price_refused k h =
-      let a = refused_is (first (plan_checks q)) (marked_of (lists_of q)) k (h ∙ ap pricing e) in
-      refused (plan_checks q) 4 s k a.0 a.1 _
+  price_refused k h = not_told (plan_checks q) 4 s (marked_of (lists_of q)) marked_cells k h
 
-  pub price_given : (r : ℕ) (w : List ℕ) (m : Marked) → gives m ≡ pricing g → r ≡ lent_refusal [] 4 (length s)
-      → w ≡ written_or r (cells_priced m.prices (mark_cell m.fewest)) s
+  pub price_given : (m : Marked) → gives m ≡ pricing q → (r : ℕ) (w : List ℕ) → (r ≡ lent_refusal [] 4 (length s)) × (w ≡ written_or r (cells_priced m.prices (mark_cell m.fewest)) s)
       → (r ≡ price_refusal q (length s)) × (w ≡ priced q s)
   unfolding pricing plan_refusal price_refusal priced
-  price_given r w m h er ew =
-      let a = given_is (first (plan_checks q)) (marked_of (lists_of q)) m (h ∙ ap pricing e) in
-      passed (plan_checks q) 4 s (plan_numbered q) a.0 r _ w er (ew ∙ ap (λ (x : Marked). written_or r (cells_priced x.prices (mark_cell x.fewest)) s) a.1)
+  price_given m h r w e = told (plan_checks q) 4 s (marked_of (lists_of q)) marked_cells (plan_numbered q) m h r w e
 
   -- the step at a position: the plan's refusal, a position past the end, and one that is not
   module _ (at : ℕ) where
-    pub at_refused : (k : ℕ) → k ≡ plan_refusal g → (k ≡ 0 → ⊥) → (k ≡ at_refusal q at (length s)) × (s ≡ stepped_at q at s)
+    pub at_refused : (x : Refusal) → number_of x ≡ plan_refusal q → (number_of x ≡ at_refusal q at (length s)) × (s ≡ stepped_at q at s)
     unfolding at_checks at_refusal stepped_at
-    at_refused k h z =
-        let due = plan_due q (check 12 (past_end (lists_of q) at) ∷ []) (λ y. z (h ∙ ap plan_refusal e ∙ y)) in
-        refused (at_checks q at) 5 s k (h ∙ ap plan_refusal e ∙ sym due) z _
+    at_refused x h =
+        let due = plan_due q (check 12 (past_end (lists_of q) at) ∷ []) (λ y. some x (h ∙ y)) in
+        refused (at_checks q at) 5 s (number_of x) (h ∙ sym due) (some x) _
 
-    module _ (h : plan_refusal g ≡ 0) where
+    module _ (h : plan_refusal q ≡ 0) where
       at_first : first (at_checks q at) ≡ first (check 12 (past_end (lists_of q) at) ∷ [])
       unfolding at_checks
-      at_first = plan_passed q _ (sym (ap plan_refusal e) ∙ h)
+      at_first = plan_passed q _ h
 
-      pub at_past : step_count (lists_of g) < at → (12 ≡ at_refusal q at (length s)) × (s ≡ stepped_at q at s)
+      pub at_past : step_count (lists_of q) < at → (12 ≡ at_refusal q at (length s)) × (s ≡ stepped_at q at s)
       unfolding at_refusal stepped_at first past_end
       at_past l =
-          let p : step_count (lists_of q) < at = rw (← e) l in
-          let f : 12 ≡ first (at_checks q at) = rw (at_first, lt-ltb (step_count (lists_of q)) at p) refl in
+          let f : 12 ≡ first (at_checks q at) = rw (at_first, lt-ltb (step_count (lists_of q)) at l) refl in
           refused (at_checks q at) 5 s 12 f (λ z. omega arith) _
 
-      pub at_given : at ≤ step_count (lists_of g) → (r : ℕ) (t : Told) (w : List ℕ) → t ≡ told_at (plan_grid g) (steps (plan_grid g)) at
-          → r ≡ lent_refusal [] 5 (length s) → w ≡ written_or r (cells_told t) s → (r ≡ at_refusal q at (length s)) × (w ≡ stepped_at q at s)
+      pub at_given : at ≤ step_count (lists_of q) → (t : Told) → t ≡ told_at (plan_grid q) (steps (plan_grid q)) at
+          → (r : ℕ) (w : List ℕ) → (r ≡ lent_refusal [] 5 (length s)) × (w ≡ written_or r (cells_told t) s) → (r ≡ at_refusal q at (length s)) × (w ≡ stepped_at q at s)
       unfolding at_refusal stepped_at first past_end
-      at_given l r t w et er ew =
-          let q' = et ∙ ap (λ x. told_at (plan_grid x) (steps (plan_grid x)) at) e in
-          let p : at ≤ step_count (lists_of q) = rw (← e) l in
-          let f : first (at_checks q at) ≡ 0 = rw (at_first, le-ltb (step_count (lists_of q)) at p) refl in
-          passed (at_checks q at) 5 s (at_numbered q at) f r _ w er (ew ∙ ap (λ x. written_or r (cells_told x) s) q')
+      at_given l t et r w e =
+          let f : first (at_checks q at) ≡ 0 = rw (at_first, le-ltb (step_count (lists_of q)) at l) refl in
+          passed (at_checks q at) 5 s (at_numbered q at) f r _ w e.0 (e.1 ∙ ap (λ x. written_or r (cells_told x) s) et)
