@@ -88,9 +88,8 @@ pub fn held(plan: Plan, position: u64, board: u32) -> Result<u64, Refusal>
     if steps_of(plan) < position {
         return Err(Refusal::Position);
     }
-    let board = u64::from(board);
     if 1 << plan.p <= board {
         return Err(Refusal::Position);
     }
-    Ok(held_at(plan, position, board))
+    Ok(held_at(plan, position, u64::from(board)))
 }

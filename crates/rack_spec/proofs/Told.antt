@@ -10,7 +10,10 @@ use Rattle.cube_spec.proofs.Sets.{Down}
 use Rattle.cube_spec.proofs.Naturals.{impossible}
 use Rattle.rack_spec.specs.Grids.{Grid, Lawful, mask_of, summed, boards, with_label, lead, cells}
 use Rattle.rack_spec.specs.Steps.{TreeStep, expand, transfer, finish, steps}
-use Rattle.rack_spec.specs.Answers.{expands, transfers, finishes, done, refused, telling_or, told_at}
+use Rattle.cube_choice.specs.declared.types.Choice.{Choice}
+use Rattle.rack_spec.specs.declared.types.Step.{Step}
+use Rattle.rack_spec.specs.declared.types.Step.TheVariants as Step'
+use Rattle.rack_spec.specs.Answers.{told, expands, transfers, finishes, done, refused, telling_or, told_at}
 use Rattle.rack_spec.proofs.Every.{Every, every_get, every_step}
 use Rattle.rack_spec.proofs.Masks.{set_mask}
 
@@ -119,3 +122,10 @@ NotRoot (finish Y) = 0 < next Y
 
 pub finish_some : (g : Grid) (at : ℕ) (Z : List ℕ) → get_elem? (steps g) at ≡ some (finish Z) → 0 < next Z
 finish_some g at Z e = every_get NotRoot (steps g) at (finish Z) (every_step NotRoot g (λ Y h. tt) (λ Y j b l d h t r. tt) (λ Y h n. n)) e
+
+-- a step of another variant tells no finish
+pub not_finish : (s : Step) → ((x : Choice) → s ≡ Step'.Finish x → ⊥) → (mask : ℕ) → finishes mask ≡ told s → ⊥
+not_finish (Step'.Expand x) k m e = cc
+not_finish (Step'.Transfer x) k m e = cc
+not_finish (Step'.Finish x) k m e = k x refl
+not_finish Step'.Done k m e = cc

@@ -29,21 +29,5 @@ pub fn is_finished(plan: Plan, at: u64) -> bool
     requires { plan_refusal plan ≡ 0 }
     ensures { result ≡ not (is_none (finished_at (plan_grid plan) at)) }
 {
-    match step_before(plan, at) {
-        Step::Finish(_) => {
-            return true;
-        }
-        Step::Expand(_) => {
-            return false;
-        }
-        Step::Transfer(_) => {
-            return false;
-        }
-        Step::Done => {
-            return false;
-        }
-        Step::Refused(_) => {
-            return false;
-        }
-    }
+    matches!(step_before(plan, at), Step::Finish(_))
 }

@@ -1,8 +1,14 @@
 // The entry that copies a finished choice into a lent slice.
-ghost use Rattle.std.specs.Prelude.{◌≡◌, ℕ, length};
+ghost use Rattle.std.specs.Prelude.{◌≡◌, length, IfOk};
+ghost use Rattle.std.proofs.Math.Option.{some};
+ghost use Rattle.cube_spec.specs.Refusals.{refused_by};
+ghost use Rattle.rack_spec.specs.Held.{finished_at};
+ghost use Rattle.rack_spec.specs.Finding.{plan_grid, summed_in};
 ghost use Rattle.run_spec.specs.Entries.{gather_refusal, gathering};
 
-use plan_check::plan_refusal;
+use cube_choice::types::Choice;
+use cube_spec::refusals::Refusal;
+use plan_check::check_plan;
 use plan_spec::types::Plan;
 use rack_count::counts::steps_of;
 use rack_spec::types::Step;
@@ -10,67 +16,32 @@ use run_check::area_of;
 use run_copy::copy_all;
 use run_finish::step_before;
 
-// 3 to 6, 8, 9, 11, 12, 13.
-pub fn gather_refusal(plan: Plan, work: u64, position: u64, res: u64) -> u8
-    ensures { result ≡ gather_refusal plan work position res }
+// 3 to 6, 8, 9, 11, 12, 13; or the choice that the position finishes.
+pub fn check_gather(plan: Plan, work: u64, position: u64, res: u64) -> Result<Choice, Refusal>
+    ensures refusal { refused_by result ≡ gather_refusal plan work position res }
+    ensures choice { IfOk result (λ c. finished_at (plan_grid plan) position ≡ some (summed_in plan c.mask)) }
 {
-    let refusal = plan_refusal(plan);
-    if refusal != 0 {
-        return refusal;
-    }
+    check_plan(plan)?;
     if work < area_of(plan) {
-        return 11;
+        return Err(Refusal::Memory);
     }
     if steps_of(plan) < position {
-        return 12;
+        return Err(Refusal::Position);
     }
-    match step_before(plan, position) {
-        Step::Finish(choice) => {
-            let lengths = plan.lengths;
-            if res != choice.cells(lengths, plan.axes) {
-                return 13;
-            }
-            return 0;
-        }
-        Step::Expand(_) => {
-            return 12;
-        }
-        Step::Transfer(_) => {
-            return 12;
-        }
-        Step::Done => {
-            return 12;
-        }
-        Step::Refused(_) => {
-            return 12;
-        }
+    let Step::Finish(choice) = step_before(plan, position) else {
+        return Err(Refusal::Position);
+    };
+    if res != choice.cells(&plan.lengths[..plan.axes as usize]) {
+        return Err(Refusal::Result);
     }
+    Ok(choice)
 }
 
-// The cells of the choice that the position finishes, row-major in axis order, into the result: gives 0, or the refusal that leaves the result as it was.
-pub fn gather(plan: Plan, work: &[i64], position: u64, res: &mut [i64]) -> u8
-    ensures { (result ≡ gather_refusal plan (length work.now) position (length res.old)) × (res.new ≡ gathering plan work.now position res.old) }
+// The cells of the choice that the position finishes, row-major in axis order, into the result; a refusal leaves the result as it was.
+pub fn gather(plan: Plan, work: &[i64], position: u64, res: &mut [i64]) -> Result<(), Refusal>
+    ensures { (refused_by result ≡ gather_refusal plan (length work.now) position (length res.old)) × (res.new ≡ gathering plan work.now position res.old) }
 {
-    let refusal = gather_refusal(plan, work.len() as u64, position, res.len() as u64);
-    if refusal != 0 {
-        return refusal;
-    }
-    match step_before(plan, position) {
-        Step::Finish(choice) => {
-            copy_all(plan, choice, work, res);
-            return 0;
-        }
-        Step::Expand(_) => {
-            return 0;
-        }
-        Step::Transfer(_) => {
-            return 0;
-        }
-        Step::Done => {
-            return 0;
-        }
-        Step::Refused(_) => {
-            return 0;
-        }
-    }
+    let choice = check_gather(plan, work.len() as u64, position, res.len() as u64)?;
+    copy_all(plan, choice, work, res);
+    Ok(())
 }

@@ -1,12 +1,10 @@
 -- The work area of small plans after each step, from any contents, and what is gathered and viewed at each finish, computed from the definitions.
-use Prim.Native.Nat.{ℕ, zero, suc}
 use mathlib.Core.Path.{◌≡◌, refl}
-use mathlib.Core.Option.{Option, none, some}
 use mathlib.Core.List.{List, [], ◌∷◌}
 use lib.IntN.{ℤ}
 use Rattle.cube_spec.specs.Boxes.{table}
 use Rattle.plan_spec.specs.Plans.{PlanLists}
-use Rattle.rack_spec.specs.Grids.{Grid, grid_of, boards}
+use Rattle.rack_spec.specs.Grids.{grid_of, boards}
 use Rattle.rack_spec.specs.Steps.{TreeStep, expand, transfer, finish, steps}
 use Rattle.run_spec.specs.Computing.{computing}
 use Rattle.run_spec.specs.Memory.{read, stepped}

@@ -1,11 +1,11 @@
 -- A lead's cells in the gathered choice: a box of the result, written through strides.
 use Prim.Native.Nat.{ℕ, zero, suc, ◌+◌, ◌-◌, ◌*◌, ◌≤◌, ◌<◌}
 use mathlib.Core.Path.{◌≡◌, sym, ◌∙◌, refl, ap, ap₂}
-use mathlib.Core.Bool.{Bool, true, false, not, ◌&&◌}
+use mathlib.Core.Bool.{true}
 use mathlib.Core.List.{List, [], ◌∷◌}
 use native.Mathlib.Nat.{zero-add, add-mul}
 use native.Mathlib.Omega.{arith}
-use borrow.Author.Tests.{eqb-true, eqb-false, ltb-true, ltb-false, lt-ltb, le-ltb, ne_eqb}
+use borrow.Author.Tests.{eqb-true, eqb-false, ltb-true, ltb-false, lt-ltb, le-ltb}
 use lib.Dec.{eqb, ltb}
 use lib.ListN.{length, get_or}
 use lib.IntN.{ℤ, pos}
@@ -17,7 +17,7 @@ use Rattle.cube_spec.proofs.Sums.{by}
 use Rattle.cube_spec.proofs.Naturals.{both, sum_n_cong, sum_n_add}
 use Rattle.cube_spec.proofs.Products.{product_pos}
 use Rattle.cube_spec.proofs.Boxing.{product_cong, place_cong, place_lt, position_place, position_lt, place_position}
-use Rattle.cube_spec.proofs.Sets.{Down, has_other, kept_has, kept_out}
+use Rattle.cube_spec.proofs.Sets.{Down, kept_has, kept_out}
 use Rattle.cube_spec.proofs.Tables.{table_length, table_at, table_of}
 use Rattle.plan_spec.specs.Plans.{PlanLists, Sound}
 use Rattle.rack_spec.specs.Grids.{Grid, Lawful, grid_of, mask_of, boards, label, lead, extent, box, cells, global, index, cell_at}
@@ -34,7 +34,7 @@ use Rattle.run_spec.specs.Copies.{kept_along, cell_stride, due_at, owner_of, one
 use Rattle.run_spec.proofs.Ranked.{rank_at, at_rank, rank_lt}
 use Rattle.run_spec.proofs.Loops.{place_formula}
 use Rattle.run_spec.proofs.Rooted.{position_cong}
-use Rattle.run_spec.proofs.Gathering.{table_same, Holds, portion_holds, owner_lt, owner_label, owner_global, owner_leads, owner_within, kept_order, gathered_within, gathered_flat, gathered_lt}
+use Rattle.run_spec.proofs.Gathering.{table_same, Holds, portion_holds, owner_lt, owner_global, owner_leads, owner_within, kept_order, gathered_within, gathered_flat}
 use Rattle.run_spec.proofs.Runs.{start_le}
 
 -- a lead has label 0 on each summed axis

@@ -1,9 +1,9 @@
 -- A child's cells as the loops form them.
-use Prim.Native.Nat.{ℕ, zero, suc, ◌+◌, ◌-◌, ◌*◌, ◌/◌, ◌%◌, ◌≤◌, ◌<◌}
+use Prim.Native.Nat.{ℕ, suc, ◌+◌, ◌-◌, ◌*◌, ◌/◌, ◌%◌, ◌≤◌, ◌<◌}
 use mathlib.Core.Path.{◌≡◌, sym, ◌∙◌, refl, ap, ap₂}
-use mathlib.Core.Bool.{Bool, true, false, ◌&&◌}
+use mathlib.Core.Bool.{false, ◌&&◌}
 use mathlib.Core.List.{List, [], ◌∷◌}
-use native.Mathlib.Nat.{zero-add, one-mul, sub-zero, le_refl, mul-le-mul}
+use native.Mathlib.Nat.{zero-add, one-mul, sub-zero, le_refl}
 use native.Mathlib.Omega.{arith}
 use borrow.Author.Tests.{leb-true, ltb-true}
 use lib.Dec.{leb, ltb}
@@ -21,10 +21,9 @@ use Rattle.cube_spec.proofs.Sets.{Down, down_out, has_head, kept_has, kept_out, 
 use Rattle.plan_spec.specs.declared.types.Plan.{Plan}
 use Rattle.plan_spec.specs.Accepted.{Accepted}
 use Rattle.plan_spec.proofs.PricingLaws.{few_axes}
-use Rattle.rack_spec.specs.Grids.{Grid, Lawful, summed_by, summed, boards, board_with, extent, box, cells, region_size, region_start, share, index}
+use Rattle.rack_spec.specs.Grids.{Grid, Lawful, summed_by, summed, boards, board_with, extent, box, cells, region_start, share, index}
 use Rattle.rack_spec.specs.Finding.{plan_grid, summed_in}
 use Rattle.rack_spec.proofs.Boards.{start_next, starts_rise, cells_fit}
-use Rattle.rack_spec.proofs.Around.{inner}
 use Rattle.rack_spec.proofs.Tallied.{axes_same}
 use Rattle.rack_spec.proofs.Planned.{inner_from, set_down, own_board, first_cell}
 use Rattle.cell_spec.specs.Rows.{from, written, axis_sums}

@@ -1,8 +1,8 @@
 -- Gathering in code: a lead's copy, by what the code's functions give, and the refusals of gathering.
 use Prim.Native.Nat.{ℕ, zero, suc, ◌+◌, ◌-◌, ◌*◌, ◌≤◌, ◌<◌}
-use mathlib.Core.Path.{◌≡◌, sym, ◌∙◌, refl, ap, ap₂}
+use mathlib.Core.Path.{◌≡◌, sym, ◌∙◌, refl, ap}
 use mathlib.Core.Bool.{Bool, true, false, ◌||◌, not}
-use mathlib.Core.Option.{Option, none, some}
+use mathlib.Core.Option.{none, some}
 use mathlib.Core.List.{List, [], ◌∷◌}
 use native.Mathlib.Omega.{arith}
 use borrow.Author.Tests.{lt-ltb, le-ltb, eq-eqb, ne_eqb, eqb-true, eqb-false, ltb-true, ltb-false}
@@ -23,8 +23,8 @@ use Rattle.plan_spec.specs.Plans.{lists_of, step_count}
 use Rattle.plan_spec.specs.Refusals.{plan_refusal}
 use Rattle.plan_spec.specs.declared.types.Plan.{Plan}
 use Rattle.plan_spec.specs.Accepted.{Accepted}
-use Rattle.rack_spec.specs.Grids.{Grid, grid_of, mask_of, summed, summed_by, boards, board_with, label, lead, box, cells, share, index}
-use Rattle.rack_spec.specs.Finding.{plan_grid, summed_in, Labels}
+use Rattle.rack_spec.specs.Grids.{grid_of, mask_of, summed, summed_by, boards, board_with, label, lead, box, cells, index}
+use Rattle.rack_spec.specs.Finding.{plan_grid, summed_in}
 use Rattle.rack_spec.specs.Held.{finished_at}
 use Rattle.rack_spec.specs.Answers.{past_end}
 use Rattle.rack_spec.proofs.Refusing.{plan_due, plan_passed}

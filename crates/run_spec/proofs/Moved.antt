@@ -1,40 +1,32 @@
 -- A transfer of the list as a row of cells added to another.
-use Prim.Native.Nat.{ℕ, zero, suc, ◌+◌, ◌-◌, ◌*◌, ◌≤◌, ◌<◌}
-use mathlib.Core.Path.{◌≡◌, sym, ◌∙◌, refl, ap, ap₂}
-use mathlib.Core.Bool.{Bool, true, false, ◌&&◌}
-use mathlib.Core.Logic.{◌⊎◌, inl, inr}
+use Prim.Native.Nat.{ℕ, suc, ◌+◌, ◌-◌, ◌*◌, ◌≤◌, ◌<◌}
+use mathlib.Core.Path.{◌≡◌, sym, ◌∙◌, refl, ap}
+use mathlib.Core.Bool.{◌&&◌}
+use mathlib.Core.Logic.{inl, inr}
 use mathlib.Core.List.{List, [], ◌∷◌}
 use native.Mathlib.Nat.{mul-le-mul, le_refl, suc-mul}
 use native.Mathlib.Omega.{arith}
-use borrow.Author.Tests.{leb-true, ltb-true, ltb-false, eqb-true, eqb-false}
-use lib.Dec.{leb, ltb, eqb}
+use borrow.Author.Tests.{leb-true, ltb-true, ltb-false}
+use lib.Dec.{leb, ltb}
 use lib.ListN.{length, get_or}
 use lib.IntN.{ℤ, pos, ◌+ℤ◌}
-use Rattle.cube_spec.specs.Boxes.{pick, table}
-use Rattle.cube_spec.specs.Tree.{next, last_of}
+use Rattle.cube_spec.specs.Boxes.{pick}
+use Rattle.cube_spec.specs.Tree.{next}
 use Rattle.cube_spec.proofs.Sums.{by}
 use Rattle.cube_spec.proofs.Naturals.{both}
 use Rattle.cube_spec.proofs.Sets.{has_head}
-use Rattle.plan_spec.specs.Plans.{lists_of}
-use Rattle.plan_spec.specs.declared.types.Plan.{Plan}
-use Rattle.plan_spec.specs.Accepted.{Accepted}
-use Rattle.rack_spec.specs.Grids.{Grid, Lawful, boards, label, with_label, lead, cells, region_size, region_start, share, index}
-use Rattle.rack_spec.specs.Steps.{TreeStep, transfer, steps}
-use Rattle.rack_spec.specs.Finding.{plan_grid, summed_in}
-use Rattle.rack_spec.proofs.Tallied.{lawful, boards_few}
+use Rattle.rack_spec.specs.Grids.{Grid, Lawful, boards, label, region_size, share, index}
+use Rattle.rack_spec.specs.Steps.{transfer}
 use Rattle.rack_spec.proofs.Boards.{sender_lt, sender_same, cells_fit}
 use Rattle.rack_spec.proofs.Moving.{lead_each}
-use Rattle.rack_spec.proofs.Told.{Known, known_step}
+use Rattle.rack_spec.proofs.Told.{Known}
 use Rattle.cell_spec.specs.Rows.{from, written, added_to, Apart}
 use Rattle.cell_spec.specs.Wrapped.{wrapped}
 use Rattle.cell_spec.proofs.Writing.{written_table}
 use Rattle.run_spec.specs.Memory.{read, after, stepped}
-use Rattle.run_spec.specs.Entries.{work_cells}
-use Rattle.run_spec.specs.Taking.{Taking}
 use Rattle.run_spec.proofs.Memory.{region_in}
 use Rattle.run_spec.proofs.Gathering.{table_same}
 use Rattle.run_spec.proofs.Ranges.{transfer_range}
-use Rattle.run_spec.proofs.Refusing.{area_boards}
 
 -- the cells of a region of a share lie within the work area
 pub region_room : (g : Grid) (b j n w : ℕ) → b < boards g → j < g.axes → n ≤ region_size g j → boards g * share g ≤ w → index g b j 0 + n ≤ w

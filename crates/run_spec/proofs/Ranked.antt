@@ -1,11 +1,10 @@
 -- A lead and its rank among the leads of a choice tell each other.
-use Prim.Native.Nat.{ℕ, ◌+◌, ◌≤◌, ◌<◌}
-use mathlib.Core.Path.{◌≡◌, sym, ◌∙◌, refl, ap}
-use mathlib.Core.Bool.{Bool, true, false}
+use Prim.Native.Nat.{ℕ, ◌<◌}
+use mathlib.Core.Path.{◌≡◌, sym, ◌∙◌, refl}
+use mathlib.Core.Bool.{true}
 use mathlib.Core.List.{List, []}
 use native.Mathlib.Omega.{arith}
 use lib.ListN.{get_or}
-use Rattle.cube_spec.specs.Boxes.{product, place, position}
 use Rattle.cube_spec.specs.Tree.{has, kept}
 use Rattle.cube_spec.proofs.Boxing.{place_cong, place_lt, place_position, position_place, position_lt}
 use Rattle.cube_spec.proofs.Sets.{Down, down_lt, kept_has, kept_out}

@@ -1,21 +1,17 @@
 -- The lists of checks of the entries that take memory, line by line.
-use Prim.Native.Nat.{ℕ, zero, suc, ◌*◌, ◌%◌, ◌^◌, ◌≤◌, ◌<◌, min}
+use Prim.Native.Nat.{ℕ, ◌*◌, ◌≤◌, ◌<◌, min}
 use mathlib.Core.Path.{◌≡◌, sym, ◌∙◌, refl, ap}
-use mathlib.Core.Bool.{Bool, true, false, ◌||◌, not}
-use mathlib.Core.List.{List, [], ◌∷◌, ◌++◌}
+use mathlib.Core.List.{[], ◌∷◌}
 use native.Mathlib.Nat.{mul-le-mul}
 use native.Mathlib.Omega.{arith}
 use borrow.Author.Tests.{eq-eqb, ne_eqb, lt-ltb, le-ltb}
-use lib.Dec.{eqb, ltb}
 use lib.ListN.{length, take}
-use lib.Pow.{pow_mono}
-use Rattle.cube_spec.specs.Limits.{axis_limit, power_limit, point_limit}
+use Rattle.cube_spec.specs.Limits.{axis_limit, point_limit}
 use Rattle.cube_spec.specs.Choices.{points, cells, counted_cells, full_mask, Countable}
-use Rattle.cube_spec.specs.Checks.{Check, check, first}
-use Rattle.cube_spec.specs.Tree as Tree
+use Rattle.cube_spec.specs.Checks.{check, first}
 use Rattle.cube_spec.proofs.Counting.{counted_is, full_cells}
 use Rattle.plan_spec.specs.Plans.{lists_of, board_count, share_size, step_count}
-use Rattle.plan_spec.specs.Refusals.{plan_checks, plan_refusal}
+use Rattle.plan_spec.specs.Refusals.{plan_refusal}
 use Rattle.plan_spec.specs.declared.types.Plan.{Plan}
 use Rattle.plan_spec.specs.Accepted.{Accepted}
 use Rattle.plan_spec.proofs.PricingLaws.{few_axes, power_small}
@@ -23,7 +19,7 @@ use Rattle.rack_spec.specs.Grids.{grid_of, boards, share}
 use Rattle.rack_spec.specs.Finding.{plan_grid}
 use Rattle.rack_spec.specs.Answers.{past_end}
 use Rattle.rack_spec.proofs.Counting.{board_count_lem}
-use Rattle.rack_spec.proofs.Refusing.{plan_due, plan_passed, boards_shifted}
+use Rattle.rack_spec.proofs.Refusing.{plan_due, plan_passed}
 use Rattle.run_spec.specs.Entries.{bad_array, work_cells, small_area, step_checks, step_refusal}
 
 -- ---- the points and the work area of a plan

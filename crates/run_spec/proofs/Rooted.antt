@@ -1,7 +1,7 @@
 -- The root's children on a board: boxes of sums over the array, read through strides.
 use Prim.Native.Nat.{ℕ, zero, suc, ◌+◌, ◌-◌, ◌*◌, ◌≤◌, ◌<◌}
 use mathlib.Core.Path.{◌≡◌, sym, ◌∙◌, refl, ap, ap₂}
-use mathlib.Core.Bool.{Bool, true, false, ◌&&◌}
+use mathlib.Core.Bool.{false, ◌&&◌}
 use mathlib.Core.List.{List, [], ◌∷◌}
 use native.Mathlib.Nat.{zero-add, add-mul, one-mul}
 use native.Mathlib.Omega.{arith}
@@ -9,7 +9,7 @@ use borrow.Author.Tests.{eqb-true, eqb-false, leb-true, ltb-true}
 use lib.Dec.{eqb, leb, ltb}
 use lib.ListN.{length, get_or}
 use lib.IntN.{ℤ, pos}
-use Rattle.cube_spec.specs.Boxes.{pick, sum_n, sum_z, put, product, place, position, table, Within}
+use Rattle.cube_spec.specs.Boxes.{pick, sum_n, put, product, position, table, Within}
 use Rattle.cube_spec.specs.Choices.{points, length_of}
 use Rattle.cube_spec.specs.Tree.{has, kept}
 use Rattle.cube_spec.proofs.Sums.{by, sum_cong, put_same, put_other}
@@ -17,8 +17,8 @@ use Rattle.cube_spec.proofs.Naturals.{both, sum_n_cong, sum_n_add}
 use Rattle.cube_spec.proofs.Boxing.{product_cong, place_lt, position_lt}
 use Rattle.cube_spec.proofs.Products.{product_pos}
 use Rattle.cube_spec.proofs.Sets.{kept_has, kept_out}
-use Rattle.plan_spec.specs.Plans.{PlanLists, Sound, length_at, find}
-use Rattle.rack_spec.specs.Grids.{Grid, Lawful, grid_of, boards, label, extent, box, cells, global, share, index}
+use Rattle.plan_spec.specs.Plans.{PlanLists, Sound}
+use Rattle.rack_spec.specs.Grids.{Lawful, grid_of, boards, label, extent, box, cells, global, share, index}
 use Rattle.plan_spec.proofs.Orders.{order_rank}
 use Rattle.rack_spec.proofs.Lawful.{grid_lawful}
 use Rattle.rack_spec.proofs.Boards.{label_lt, cells_fit}

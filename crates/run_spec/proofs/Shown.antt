@@ -9,8 +9,6 @@ use borrow.Author.Tests.{lt-ltb, le-ltb, le-leb, lt-leb, not-true, not-false, eq
 use lib.Dec.{eqb, ltb, leb}
 use lib.ListN.{length, get_elem?}
 use lib.IntN.{ℤ}
-use types.Run.{OneOf, miss}
-use denote.Enum.Declared.{tag_of}
 use Rattle.cube_spec.specs.Tree.{next, last_of}
 use Rattle.cube_spec.proofs.Sums.{by}
 use Rattle.cube_spec.specs.Checks.{check, first}
@@ -22,24 +20,13 @@ use Rattle.rack_spec.specs.Grids.{Grid, Lawful, summed, boards, cells, share, in
 use Rattle.rack_spec.specs.Steps.{TreeStep, expand, transfer, finish, steps}
 use Rattle.rack_spec.specs.Held.{finished_by, finished_at}
 use Rattle.rack_spec.specs.Finding.{plan_grid}
-use Rattle.rack_spec.specs.declared.types.Step.{Step}
-use Rattle.rack_spec.specs.declared.types.Step.TheVariants as Step'
-use Rattle.rack_spec.specs.contracts.types.Step as step
-use Rattle.rack_spec.specs.Answers.{Told, finishes, done, told, telling_or, told_at, past_end, no_board}
+use Rattle.rack_spec.specs.Answers.{Told, finishes, done, telling_or, told_at, past_end, no_board}
 use Rattle.rack_spec.proofs.Told.{finish_told, finish_some}
 use Rattle.rack_spec.proofs.Boards.{cells_fit}
 use Rattle.rack_spec.proofs.Refusing.{plan_due, plan_passed}
 use Rattle.run_spec.specs.Entries.{is_none, work_cells, small_area, no_finish, view_checks, view_refusal, view_of, view_or, viewing}
 use Rattle.run_spec.proofs.Moved.{region_room}
 use Rattle.run_spec.specs.Taking.{told_before}
-
--- a step of another variant tells no finish
-pub not_finish : (s : Step) → OneOf (0 ∷ 1 ∷ 3 ∷ 4 ∷ []) (tag_of step.the_type s) → (mask : ℕ) → finishes mask ≡ told s → ⊥
-not_finish (Step'.Expand x) k m e = let z : ◌≡◌ {A = ℕ} 0 1 = cc in omega arith
-not_finish (Step'.Transfer x) k m e = let z : ◌≡◌ {A = ℕ} 0 1 = cc in omega arith
-not_finish (Step'.Finish x) k m e = miss (0 ∷ 1 ∷ 3 ∷ 4 ∷ []) 2 tt k
-not_finish Step'.Done k m e = let z : ◌≡◌ {A = ℕ} 0 1 = cc in omega arith
-not_finish (Step'.Refused x) k m e = let z : ◌≡◌ {A = ℕ} 0 1 = cc in omega arith
 
 module _ (g : Grid) where
   pub before_none : (at : ℕ) → at ≡ 0 → done ≡ told_before g at

@@ -1,16 +1,15 @@
 -- A call of step: what its refusal leaves over, and its outcome case by case.
-use Prim.Native.Nat.{ℕ, zero, suc, ◌+◌, ◌-◌, ◌*◌, ◌^◌, ◌≤◌, ◌<◌}
+use Prim.Native.Nat.{ℕ, zero, suc, ◌+◌, ◌-◌, ◌*◌, ◌^◌, ◌≤◌}
 use mathlib.Core.Path.{◌≡◌, sym, ◌∙◌, refl, ap, ap₂}
-use mathlib.Core.Bool.{Bool, true, false}
-use mathlib.Core.Option.{Option, none, some}
-use mathlib.Core.List.{List, [], ◌∷◌}
+use mathlib.Core.Option.{none, some}
+use mathlib.Core.List.{List}
 use native.Mathlib.Nat.{sub-zero}
 use native.Mathlib.Omega.{arith}
 use borrow.Author.Tests.{eqb-true, eqb-false, ltb-true, ltb-false}
 use lib.Dec.{eqb, ltb}
 use lib.ListN.{length, get_elem?}
 use lib.IntN.{ℤ, pos}
-use lib.Pow.{pow_pos, pow_mono}
+use lib.Pow.{pow_mono}
 use Rattle.cube_spec.specs.Choices.{points}
 use Rattle.cube_spec.proofs.Sums.{by}
 use Rattle.cube_spec.proofs.Tables.{table_of}
@@ -20,14 +19,14 @@ use Rattle.plan_spec.specs.declared.types.Plan.{Plan}
 use Rattle.plan_spec.specs.Accepted.{Accepted}
 use Rattle.plan_spec.proofs.PricingLaws.{few_axes}
 use Rattle.rack_spec.specs.Grids.{Grid}
-use Rattle.rack_spec.specs.Steps.{TreeStep, expand, transfer, finish, steps}
+use Rattle.rack_spec.specs.Steps.{TreeStep, transfer, finish, steps}
 use Rattle.rack_spec.specs.Counts.{marks, walk_count, sendings}
-use Rattle.rack_spec.specs.Finding.{plan_grid, summed_in}
+use Rattle.rack_spec.specs.Finding.{plan_grid}
 use Rattle.rack_spec.specs.Answers.{Told, done, refused, telling, telling_or, told_at}
 use Rattle.rack_spec.proofs.Tallied.{sendings_small, steps_same}
 use Rattle.run_spec.specs.Memory as Memory
 use Rattle.run_spec.specs.Memory.{stepped}
-use Rattle.run_spec.specs.Entries.{work_cells, step_refusal, Outcome, outcome, taken, step_or, stepping}
+use Rattle.run_spec.specs.Entries.{work_cells, step_refusal, outcome, taken, step_or, stepping}
 use Rattle.run_spec.specs.Taking.{Taking}
 use Rattle.run_spec.proofs.Refusing.{step_due, step_points, step_area, step_past}
 

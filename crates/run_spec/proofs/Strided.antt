@@ -1,18 +1,17 @@
 -- Strides, extents and the first point of a board's box, as the code counts them.
-use Prim.Native.Nat.{ℕ, zero, suc, ◌+◌, ◌-◌, ◌*◌, ◌≤◌, ◌<◌}
+use Prim.Native.Nat.{ℕ, suc, ◌+◌, ◌-◌, ◌*◌, ◌≤◌, ◌<◌}
 use mathlib.Core.Path.{◌≡◌, sym, ◌∙◌, refl, ap, ap₂}
 use mathlib.Core.Bool.{true, false, not}
 use mathlib.Core.List.{List, [], ◌∷◌}
-use native.Mathlib.Nat.{zero-add, sub-zero, mul-le-mul, le_refl}
-use native.Mathlib.Numerals.{add-one}
+use native.Mathlib.Nat.{sub-zero, mul-le-mul}
 use native.Mathlib.Omega.{arith}
 use borrow.Author.Tests.{eqb-true, eqb-false}
 use lib.Dec.{eqb}
-use lib.ListN.{length, get_or, take, set, length-set}
+use lib.ListN.{length, get_or, set, length-set}
 use lib.Seq.{get_or-take, get_or-set_same, get_or-set_other}
 use Rattle.cube_spec.specs.Limits.{length_limit, point_limit}
 use Rattle.cube_spec.specs.Boxes.{sum_n, product}
-use Rattle.cube_spec.specs.Choices.{points, keeps}
+use Rattle.cube_spec.specs.Choices.{keeps}
 use Rattle.cube_spec.specs.Tree.{next, has, kept}
 use Rattle.cube_spec.proofs.Sums.{by}
 use Rattle.cube_spec.proofs.Sets.{kept_has, kept_out}
@@ -22,7 +21,7 @@ use Rattle.plan_spec.specs.Plans.{lists_of}
 use Rattle.plan_spec.specs.declared.types.Plan.{Plan}
 use Rattle.plan_spec.specs.Accepted.{Accepted}
 use Rattle.plan_spec.proofs.PricingLaws.{few_axes}
-use Rattle.rack_spec.specs.Grids.{Grid, grid_of, boards, board_with, label, extent, box, cells}
+use Rattle.rack_spec.specs.Grids.{boards, board_with, label, extent, box, cells}
 use Rattle.rack_spec.specs.Finding.{plan_grid, summed_in, Labels}
 use Rattle.rack_spec.proofs.Tallied.{lawful, axes_same}
 use Rattle.rack_spec.proofs.Planned.{summed_has, order_slot, part_le, label_with, own_board, cells_small}

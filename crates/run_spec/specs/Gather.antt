@@ -1,11 +1,10 @@
 -- Gathering a finished choice, and viewing a board's part of it.
-use Rattle.std.specs.Prelude.{ℕ, zero, suc, ◌+◌, ◌-◌, Bool, List, [], leb, take, drop, ℤ}
+use Rattle.std.specs.Prelude.{ℕ, zero, suc, ◌-◌, List, [], leb, take, drop, ℤ}
 use Rattle.cube_spec.specs.Boxes.{pick, table, place}
 use Rattle.cube_spec.specs.Choices as Choices
 use Rattle.cube_spec.specs.Choices.{cell_position}
 use Rattle.cube_spec.specs.Tree.{last_of}
 use Rattle.rack_spec.specs.Grids.{Grid, mask_of, lead, cells, index, cell_at}
-use Rattle.run_spec.specs.Memory.{read}
 
 -- ---- which board holds a position
 

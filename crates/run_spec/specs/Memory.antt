@@ -1,6 +1,6 @@
 -- The contents of every cell of the work area after a step.
-use Rattle.std.specs.Prelude.{ℕ, ◌≡◌, Bool, true, false, ◌&&◌, List, [], ◌∷◌, eqb, ltb, leb, length, get_or, ℤ, pos, ◌+ℤ◌}
-use Rattle.cube_spec.specs.Boxes.{pick, sum_z, table, put, product, place, position}
+use Rattle.std.specs.Prelude.{ℕ, Bool, ◌&&◌, List, [], ◌∷◌, eqb, ltb, leb, length, get_or, ℤ, pos, ◌+ℤ◌}
+use Rattle.cube_spec.specs.Boxes.{pick, sum_z, table, put, place, position}
 use Rattle.cube_spec.specs.Tree.{last_of, next}
 use Rattle.cell_spec.specs.Wrapped.{wrapped}
 use Rattle.rack_spec.specs.Grids.{Grid, boards, lead, extent, box, cells, global, index, board_of, region_of, cell_of, cell_at}

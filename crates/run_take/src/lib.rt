@@ -25,26 +25,13 @@ pub fn take(
     ensures { outcome (told result) work.new position.new ≡ stepping plan array.now work.old position.old }
 {
     let at = *position;
-    match step_by(plan, tallies, at) {
-        Step::Expand(choice) => {
-            expand_all(plan, choice, array, work);
-            *position = at + 1;
-            return Step::Expand(choice);
-        }
-        Step::Transfer(t) => {
-            move_cells(plan, t, work);
-            *position = at + 1;
-            return Step::Transfer(t);
-        }
-        Step::Finish(choice) => {
-            *position = at + 1;
-            return Step::Finish(choice);
-        }
-        Step::Done => {
-            return Step::Done;
-        }
-        Step::Refused(n) => {
-            return Step::Refused(n);
-        }
+    let step = step_by(plan, tallies, at);
+    match step {
+        Step::Expand(choice) => expand_all(plan, choice, array, work),
+        Step::Transfer(t) => move_cells(plan, t, work),
+        Step::Finish(_) => {}
+        Step::Done => return Step::Done,
     }
+    *position = at + 1;
+    step
 }

@@ -1,5 +1,6 @@
 // The entries that show a board's cells of a finished choice.
 ghost use Rattle.std.specs.Prelude.{◌≡◌, ℕ, ◌+◌, ◌*◌, ◌^◌, ◌≤◌, ◌<◌, length};
+ghost use Rattle.cube_spec.specs.Refusals.{refused_by};
 ghost use Rattle.plan_spec.specs.Plans.{lists_of, board_count};
 ghost use Rattle.plan_spec.specs.Refusals.{plan_refusal};
 ghost use Rattle.rack_spec.specs.Grids.{boards, share};
@@ -8,7 +9,8 @@ ghost use Rattle.run_spec.specs.Entries.{view_refusal, viewing};
 ghost use Rattle.run_view.specs.Places.{part_of};
 
 use crate::types::Part;
-use plan_check::plan_refusal;
+use cube_spec::refusals::Refusal;
+use plan_check::check_plan;
 use plan_spec::types::Plan;
 use rack_count::counts::steps_of;
 use rack_grid::places::{cells_of, is_lead, next_of, region_at};
@@ -17,27 +19,23 @@ use run_check::area_of;
 use run_finish::{is_finished, step_before};
 
 // 3 to 6, 8, 9, 11, 12, as the entry beside `view`.
-pub fn view_refusal(plan: Plan, work: &[i64], position: u64, board: u32) -> u8
-    ensures { result ≡ view_refusal plan (length work.now) position board }
+pub fn check_view(plan: Plan, work: &[i64], position: u64, board: u32) -> Result<(), Refusal>
+    ensures { refused_by result ≡ view_refusal plan (length work.now) position board }
 {
-    let refusal = plan_refusal(plan);
-    if refusal != 0 {
-        return refusal;
-    }
+    check_plan(plan)?;
     if (work.len() as u64) < area_of(plan) {
-        return 11;
+        return Err(Refusal::Memory);
     }
     if steps_of(plan) < position {
-        return 12;
+        return Err(Refusal::Position);
     }
     if !is_finished(plan, position) {
-        return 12;
+        return Err(Refusal::Position);
     }
-    let boards = 1u64 << plan.p;
-    if boards <= board as u64 {
-        return 12;
+    if 1 << plan.p <= board {
+        return Err(Refusal::Position);
     }
-    0
+    Ok(())
 }
 
 // Where a board's cells of the choice that the position finishes stand in the work area: no cells for a board that is no lead.
@@ -48,24 +46,23 @@ pub fn part_of(plan: Plan, position: u64, board: u32) -> Part
     let Step::Finish(choice) = step_before(plan, position) else {
         return Part { start: 0, cells: 0 };
     };
-    let b = board as u64;
-    if is_lead(plan, choice, b) {
-        let next = next_of(plan, choice);
-        let start = region_at(plan, b, next - 1);
-        let cells = cells_of(plan, choice, b);
-        return Part { start, cells };
+    let board = u64::from(board);
+    if !is_lead(plan, choice, board) {
+        return Part { start: 0, cells: 0 };
     }
-    Part { start: 0, cells: 0 }
+    Part {
+        start: region_at(plan, board, next_of(plan, choice) - 1),
+        cells: cells_of(plan, choice, board),
+    }
 }
 
 // A board's cells of the choice that the position finishes, as a part of the work area itself: empty on a refusal, and for a board that is no lead.
 pub fn view(plan: Plan, work: &[i64], position: u64, board: u32) -> &[i64]
     ensures { result.now ≡ viewing plan work.now position board }
 {
-    let refusal = view_refusal(plan, work, position, board);
-    if refusal != 0 {
+    let Ok(()) = check_view(plan, work, position, board) else {
         return &work[..0];
-    }
+    };
     let part = part_of(plan, position, board);
     let start = part.start as usize;
     let end = start + part.cells as usize;

@@ -1,8 +1,18 @@
+use Rattle.std.proofs.Common.{◌∙◌, rules}
 use Rattle.plan_spec.proofs.Accepting.{passed_accepted}
-use mathlib.Core.Path.{◌∙◌}
+use Rattle.plan_spec.proofs.PricingLaws.{few_axes}
 use Rattle.run_spec.proofs.Refusing.{points_plan}
-use borrow.Author.Rules.{rules}
 use Rattle.run_check.proofs.points_of.Goals as goal
 
+pub shared_ref_as_front-cells : goal.shared_ref_as_front-cells
+shared_ref_as_front-cells c =
+    let w = c.well_formed in
+    let ok = passed_accepted c.args.plan (search rules) (search rules) (search rules) c.requires in
+    few_axes ok
+
 pub returns : goal.returns
-returns c = let gd = c.well_formed.0.1.1.1.1 in let ok = passed_accepted c.args.plan (search rules) (search rules) (search rules) c.requires in let e = rw c.full-full.ensures at c.cells.ensures in e ∙ points_plan c.args.plan ok
+returns c =
+    let w = c.well_formed in
+    let ok = passed_accepted c.args.plan (search rules) (search rules) (search rules) c.requires in
+    let e = rw c.full.ensures at c.cells.ensures in
+    e ∙ points_plan c.args.plan ok

@@ -1,43 +1,60 @@
-use native.Mathlib.Omega.{arith}
+use Rattle.std.proofs.Common.{arith, rules, ◌∙◌}
 use Rattle.plan_spec.proofs.Accepting.{passed_accepted}
-use mathlib.Core.Path.{sym, ap, ◌∙◌}
 use Rattle.rack_spec.specs.Finding.{plan_grid}
-use Rattle.rack_spec.specs.Answers.{told}
 use Rattle.rack_spec.proofs.Tallied.{lawful}
-use Rattle.rack_spec.proofs.Told.{expand_told, transfer_told, finish_told, done_told, never_refused}
+use Rattle.rack_spec.proofs.Told.{expand_told, transfer_told, finish_told, done_told}
 use Rattle.run_spec.proofs.Stepped.{passed, steps_few, taken_out, done_out, taking, transfer_free, finish_free}
-use borrow.Author.Rules.{rules}
 use Rattle.run_take.proofs.take.Goals as goal
+use Rattle.run_take.proofs.take.Goals.{in-Expand, in-Transfer, in-Finish}
 
-pub step_by-requires : goal.step_by-requires
-step_by-requires c = let p = passed c.args.plan _ _ _ c.requires.0 in (p.plan, c.requires.1)
+pub step_by-step-requires : goal.step_by-step-requires
+step_by-step-requires c = let p = passed c.args.plan _ _ _ c.requires.0 in (p.plan, c.requires.1)
 
 pub expand_all-requires : goal.expand_all-requires
-expand_all-requires c = let z = c.requires.0 in let p = passed c.args.plan _ _ _ z in let ok = passed_accepted c.args.plan (search rules) (search rules) (search rules) p.plan in let law = lawful c.args.plan ok in let t = c.in-Expand.ensures in let e = expand_told (plan_grid c.args.plan) law c.args.position.now _ t in (taking c.args.plan c.args.array.now c.args.work.now c.args.position.now _ p e.0, p.all)
-
-pub overflow_add-position : goal.overflow_add-position
-overflow_add-position c = let z = c.requires.0 in let p = passed c.args.plan _ _ _ z in let ok = passed_accepted c.args.plan (search rules) (search rules) (search rules) p.plan in let law = lawful c.args.plan ok in let f = steps_few c.args.plan ok in let w = p.within in omega arith
-
-pub returns-in-Expand : goal.returns-in-Expand
-returns-in-Expand c = let z = c.requires.0 in let p = passed c.args.plan _ _ _ z in let ok = passed_accepted c.args.plan (search rules) (search rules) (search rules) p.plan in let law = lawful c.args.plan ok in let t = c.in-Expand.ensures in let e = expand_told (plan_grid c.args.plan) law c.args.position.now _ t in taken_out c.args.plan c.args.array.now c.args.work.now c.args.position.now z _ _ _ e.0 t c.expand_all.ensures
+expand_all-requires c =
+    let p = passed c.args.plan _ _ _ c.requires.0 in
+    let ok = passed_accepted c.args.plan (search rules) (search rules) (search rules) p.plan in
+    let e = expand_told (plan_grid c.args.plan) (lawful c.args.plan ok) c.args.position.now _ c.in-Expand.ensures in
+    (taking c.args.plan c.args.array.now c.args.work.now c.args.position.now _ p e.0, p.all)
 
 pub move_cells-requires : goal.move_cells-requires
-move_cells-requires c = let z = c.requires.0 in let p = passed c.args.plan _ _ _ z in let ok = passed_accepted c.args.plan (search rules) (search rules) (search rules) p.plan in let law = lawful c.args.plan ok in let t = c.in-Transfer.ensures in let e = transfer_told (plan_grid c.args.plan) law c.args.position.now _ _ _ _ t in taking c.args.plan c.args.array.now c.args.work.now c.args.position.now _ p e.0
-
-pub overflow_add-position-in-Transfer : goal.overflow_add-position-in-Transfer
-overflow_add-position-in-Transfer c = let z = c.requires.0 in let p = passed c.args.plan _ _ _ z in let ok = passed_accepted c.args.plan (search rules) (search rules) (search rules) p.plan in let law = lawful c.args.plan ok in let f = steps_few c.args.plan ok in let w = p.within in omega arith
-
-pub returns-in-Transfer : goal.returns-in-Transfer
-returns-in-Transfer c = let z = c.requires.0 in let p = passed c.args.plan _ _ _ z in let ok = passed_accepted c.args.plan (search rules) (search rules) (search rules) p.plan in let law = lawful c.args.plan ok in let t = c.in-Transfer.ensures in let e = transfer_told (plan_grid c.args.plan) law c.args.position.now _ _ _ _ t in taken_out c.args.plan c.args.array.now c.args.work.now c.args.position.now z _ _ _ e.0 t (c.move_cells.ensures ∙ transfer_free (plan_grid c.args.plan) _ c.args.array.now c.args.work.now _ _ _ _)
-
-pub overflow_add-position-in-Finish : goal.overflow_add-position-in-Finish
-overflow_add-position-in-Finish c = let z = c.requires.0 in let p = passed c.args.plan _ _ _ z in let ok = passed_accepted c.args.plan (search rules) (search rules) (search rules) p.plan in let law = lawful c.args.plan ok in let f = steps_few c.args.plan ok in let w = p.within in omega arith
-
-pub returns-in-Finish : goal.returns-in-Finish
-returns-in-Finish c = let z = c.requires.0 in let p = passed c.args.plan _ _ _ z in let ok = passed_accepted c.args.plan (search rules) (search rules) (search rules) p.plan in let law = lawful c.args.plan ok in let t = c.in-Finish.ensures in let e = finish_told (plan_grid c.args.plan) law c.args.position.now _ t in taken_out c.args.plan c.args.array.now c.args.work.now c.args.position.now z _ _ _ e.0 t (finish_free (plan_grid c.args.plan) c.args.array.now c.args.work.now _)
+move_cells-requires c =
+    let p = passed c.args.plan _ _ _ c.requires.0 in
+    let ok = passed_accepted c.args.plan (search rules) (search rules) (search rules) p.plan in
+    let e = transfer_told (plan_grid c.args.plan) (lawful c.args.plan ok) c.args.position.now _ _ _ _ c.in-Transfer.ensures in
+    taking c.args.plan c.args.array.now c.args.work.now c.args.position.now _ p e.0
 
 pub returns-in-Done : goal.returns-in-Done
-returns-in-Done c = let z = c.requires.0 in let p = passed c.args.plan _ _ _ z in let ok = passed_accepted c.args.plan (search rules) (search rules) (search rules) p.plan in let law = lawful c.args.plan ok in let t = c.in-Done.ensures in done_out c.args.plan c.args.array.now c.args.work.now c.args.position.now z (done_told (plan_grid c.args.plan) law c.args.position.now 0 t)
+returns-in-Done c =
+    let p = passed c.args.plan _ _ _ c.requires.0 in
+    let ok = passed_accepted c.args.plan (search rules) (search rules) (search rules) p.plan in
+    done_out c.args.plan c.args.array.now c.args.work.now c.args.position.now c.requires.0 (done_told (plan_grid c.args.plan) (lawful c.args.plan ok) c.args.position.now 0 c.in-Done.ensures)
 
-pub returns-in-Refused : goal.returns-in-Refused
-returns-in-Refused c = let z = c.requires.0 in let p = passed c.args.plan _ _ _ z in let ok = passed_accepted c.args.plan (search rules) (search rules) (search rules) p.plan in let law = lawful c.args.plan ok in let t = c.in-Refused.ensures in absurd (never_refused (plan_grid c.args.plan) law c.args.position.now 0 _ t)
+pub overflow_add-position : goal.overflow_add-position
+overflow_add-position c =
+    let p = passed c.args.plan _ _ _ c.requires.0 in
+    let ok = passed_accepted c.args.plan (search rules) (search rules) (search rules) p.plan in
+    let f = steps_few c.args.plan ok in
+    let w = p.within in
+    omega arith
+
+pub returns : goal.returns
+returns c =
+    let p = passed c.args.plan _ _ _ c.requires.0 in
+    let ok = passed_accepted c.args.plan (search rules) (search rules) (search rules) p.plan in
+    let g = plan_grid c.args.plan in
+    let law = lawful c.args.plan ok in
+    elim c.match-step.branch [
+      | in-Expand w ↦
+          let t = w.in-Expand.ensures in
+          let e = expand_told g law c.args.position.now _ t in
+          rw (w.step-is, w.work-is) (taken_out c.args.plan c.args.array.now c.args.work.now c.args.position.now c.requires.0 _ _ _ e.0 t w.expand_all.ensures)
+      | in-Transfer w ↦
+          let t = w.in-Transfer.ensures in
+          let e = transfer_told g law c.args.position.now _ _ _ _ t in
+          rw (w.step-is, w.work-is) (taken_out c.args.plan c.args.array.now c.args.work.now c.args.position.now c.requires.0 _ _ _ e.0 t (w.move_cells.ensures ∙ transfer_free g _ c.args.array.now c.args.work.now _ _ _ _))
+      | in-Finish w ↦
+          let t = w.in-Finish.ensures in
+          let e = finish_told g law c.args.position.now _ t in
+          rw (w.step-is, w.work-is, w.in-Finish.is) (taken_out c.args.plan c.args.array.now c.args.work.now c.args.position.now c.requires.0 _ _ _ e.0 t (finish_free g c.args.array.now c.args.work.now _))
+    ]

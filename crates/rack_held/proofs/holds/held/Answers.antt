@@ -26,17 +26,19 @@ pub returns-then-plan-board : goal.returns-then-plan-board
 returns-then-plan-board c =
     let z = sym c.in_ok-check_plan.ensures in
     let ok = passed_accepted c.args.plan (search rules) (search rules) (search rules) z in
-    held_outside c.args.plan c.args.position c.args.board z (rw (← c.steps_of.ensures) c.if-steps_of-position.false) (rw (← boards_shifted c.args.plan ok.boards, ← c.from-board.ensures) c.if-plan-board.true)
+    let w = boards_shifted c.args.plan 32 (let p = ok.boards in omega arith) in
+    held_outside c.args.plan c.args.position c.args.board z (rw (← c.steps_of.ensures) c.if-steps_of-position.false) (rw (← w) c.if-plan-board.true)
 
 pub held_at-requires : goal.held_at-requires
 held_at-requires c =
     let z = sym c.in_ok-check_plan.ensures in
     let ok = passed_accepted c.args.plan (search rules) (search rules) (search rules) z in
-    (z, rw (board_count_lem (lists_of c.args.plan) ok.sound, ← boards_shifted c.args.plan ok.boards) c.if-plan-board.false)
+    let w = boards_shifted c.args.plan 32 (let p = ok.boards in omega arith) in
+    (z, rw (board_count_lem (lists_of c.args.plan) ok.sound, ← w, c.from.ensures) c.if-plan-board.false)
 
 pub returns : goal.returns
 returns c =
     let z = sym c.in_ok-check_plan.ensures in
     let ok = passed_accepted c.args.plan (search rules) (search rules) (search rules) z in
-    let b = c.if-plan-board.false in
-    rw (c.held_at.ensures, c.from-board.ensures) (held_given c.args.plan c.args.position c.args.board z (rw (← c.steps_of.ensures) c.if-steps_of-position.false) (rw (← boards_shifted c.args.plan ok.boards, ← c.from-board.ensures) b))
+    let w = boards_shifted c.args.plan 32 (let p = ok.boards in omega arith) in
+    rw (c.held_at.ensures, c.from.ensures) (held_given c.args.plan c.args.position c.args.board z (rw (← c.steps_of.ensures) c.if-steps_of-position.false) (rw (← w) c.if-plan-board.false))

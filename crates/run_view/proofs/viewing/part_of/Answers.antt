@@ -10,7 +10,8 @@ use Rattle.rack_spec.proofs.Counting.{board_count_lem}
 use Rattle.rack_spec.specs.Grids.{boards, share, index}
 use Rattle.rack_spec.specs.Finding.{plan_grid, summed_in}
 use Rattle.rack_spec.proofs.Tallied.{lawful, boards_few}
-use Rattle.run_spec.proofs.Shown.{finished_is, other_none, finished_some, cells_room, not_finish}
+use Rattle.rack_spec.proofs.Told.{not_finish}
+use Rattle.run_spec.proofs.Shown.{finished_is, other_none, finished_some, cells_room}
 use Rattle.run_view.proofs.Placed as placed
 use borrow.Author.Rules.{rules}
 use Rattle.run_view.proofs.viewing.part_of.Goals as goal
@@ -30,56 +31,54 @@ pub is_lead-requires : goal.is_lead-requires
 is_lead-requires c =
     let q = c.args.plan in
     let ok = passed_accepted q (search rules) (search rules) (search rules) c.requires.0 in
-    (c.requires.0, on_rack q ok c.args.board c.requires.1)
+    (c.requires.0, rw c.from-board.ensures (on_rack q ok c.args.board c.requires.1))
 
-pub overflow_sub-next : goal.overflow_sub-next
-overflow_sub-next c =
+-- no lead
+pub returns-then-not-is_lead : goal.returns-then-not-is_lead
+returns-then-not-is_lead c =
     let q = c.args.plan in
     let ok = passed_accepted q (search rules) (search rules) (search rules) c.requires.0 in
-    let t = c.in-Finish.ensures in
-    let e = finished_is (plan_grid q) (lawful q ok) c.args.position _ t in
-    rw c.next_of-next.ensures.0 (finished_some (plan_grid q) c.args.position _ e.0)
+    let e = finished_is (plan_grid q) (lawful q ok) c.args.position _ c.in-Finish.ensures in
+    (placed.part_other (plan_grid q) c.args.position c.args.board _ e.0 (rw c.from-board.ensures at (sym c.if-not-is_lead.ensures)), search rules, search rules)
 
-pub region_at-start-requires : goal.region_at-start-requires
-region_at-start-requires c =
+pub overflow_sub-next_of : goal.overflow_sub-next_of
+overflow_sub-next_of c =
+    let q = c.args.plan in
+    let ok = passed_accepted q (search rules) (search rules) (search rules) c.requires.0 in
+    let e = finished_is (plan_grid q) (lawful q ok) c.args.position _ c.in-Finish.ensures in
+    rw c.next_of.ensures.0 (finished_some (plan_grid q) c.args.position _ e.0)
+
+pub region_at-requires : goal.region_at-requires
+region_at-requires c =
     let q = c.args.plan in
     let ok = passed_accepted q (search rules) (search rules) (search rules) c.requires.0 in
     let b = boards_few q ok in
     let on = on_rack q ok c.args.board c.requires.1 in
-    let n = c.next_of-next.ensures.1 in
+    let f = c.from-board.ensures in
+    let n = c.next_of.ensures.1 in
     (c.requires.0, omega arith, omega arith)
 
-pub cells_of-cells-requires : goal.cells_of-cells-requires
-cells_of-cells-requires c =
+pub cells_of-requires : goal.cells_of-requires
+cells_of-requires c =
     let q = c.args.plan in
     let ok = passed_accepted q (search rules) (search rules) (search rules) c.requires.0 in
-    (c.requires.0, on_rack q ok c.args.board c.requires.1)
+    (c.requires.0, rw c.from-board.ensures (on_rack q ok c.args.board c.requires.1))
 
 -- a lead's part, which lies within its share
-pub returns-then-is_lead : goal.returns-then-is_lead
-returns-then-is_lead c =
-    let q = c.args.plan in
-    let g = plan_grid q in
-    let b = c.args.board in
-    let ok = passed_accepted q (search rules) (search rules) (search rules) c.requires.0 in
-    let law = lawful q ok in
-    let t = c.in-Finish.ensures in
-    let e = finished_is g law c.args.position _ t in
-    let Y = summed_in q c.in-Finish.choice.mask in
-    let room : boards g * share g ≤ boards g * share g = omega arith in
-    let cr = cells_room g law b Y (boards g * share g) (finished_some g c.args.position Y e.0) e.1 (on_rack q ok b c.requires.1) room in
-    let n = c.next_of-next.ensures.0 in
-    let a = c.region_at-start.ensures.0 ∙ ap (λ i. index g b (i - 1) 0) n ∙ ap (λ i. index g b i 0) cr.0 in
-    let k = c.cells_of-cells.ensures.0 in
-    let l = sym c.is_lead.ensures ∙ c.if-is_lead.true in
-    (placed.part_lead g c.args.position b Y e.0 l _ _ a k, rw (a, k) cr.1, omega (arith, c.region_at-start.ensures.1, c.cells_of-cells.ensures.1))
-
--- no lead
 pub returns : goal.returns
 returns c =
     let q = c.args.plan in
-    let g = plan_grid q in
     let ok = passed_accepted q (search rules) (search rules) (search rules) c.requires.0 in
-    let t = c.in-Finish.ensures in
-    let e = finished_is g (lawful q ok) c.args.position _ t in
-    (placed.part_other g c.args.position c.args.board _ e.0 (sym c.is_lead.ensures ∙ c.if-is_lead.false), search rules, search rules)
+    let g = plan_grid q in
+    let b = c.args.board in
+    let law = lawful q ok in
+    let e = finished_is g law c.args.position _ c.in-Finish.ensures in
+    let Y = summed_in q c.in-Finish.choice.mask in
+    let room : boards g * share g ≤ boards g * share g = omega arith in
+    let cr = cells_room g law b Y (boards g * share g) (finished_some g c.args.position Y e.0) e.1 (on_rack q ok b c.requires.1) room in
+    let f = c.from-board.ensures in
+    let r = rw f at c.region_at.ensures.0 in
+    let a = r ∙ ap (λ i. index g b (i - 1) 0) c.next_of.ensures.0 ∙ ap (λ i. index g b i 0) cr.0 in
+    let k = rw f at c.cells_of.ensures.0 in
+    let l = rw f at (sym c.if-not-is_lead.ensures) in
+    (placed.part_lead g c.args.position b Y e.0 l _ _ a k, rw (a, k) cr.1, omega (arith, c.region_at.ensures.1, c.cells_of.ensures.1))

@@ -1,27 +1,24 @@
--- `run_view::viewing::view` meets its contract.
-use Prim.Native.Nat.{◌+◌, ◌-◌}
-use mathlib.Core.Path.{◌≡◌, sym, ◌∙◌}
-use native.Mathlib.Omega.{arith}
-use borrow.Author.Rules.{rules}
+use Rattle.std.proofs.Common.{◌≡◌, ◌+◌, ◌-◌, arith, rules, sym}
 use Rattle.plan_spec.proofs.Accepting.{passed_accepted}
+use Rattle.rack_spec.proofs.Refusing.{not_ok}
 use Rattle.run_spec.proofs.Refusing.{area_boards}
 use Rattle.run_spec.proofs.Shown.{showing, shown_refused}
 use Rattle.run_view.proofs.Placed as placed
 use Rattle.run_view.proofs.viewing.view.Goals as goal
 
-pub returns-then-refusal-ne0 : goal.returns-then-refusal-ne0
-returns-then-refusal-ne0 c =
-    shown_refused c.args.plan c.args.work.now c.args.position c.args.board c.view_refusal-refusal.result c.view_refusal-refusal.ensures c.if-refusal-ne0.true
+pub returns-in_default : goal.returns-in_default
+returns-in_default c =
+    shown_refused c.args.plan c.args.work.now c.args.position c.args.board _ c.check_view.ensures (not_ok c.check_view.result (search rules))
 
 pub part_of-part-requires : goal.part_of-part-requires
 part_of-part-requires c =
-    let p = showing c.args.plan _ c.args.position c.args.board (sym c.view_refusal-refusal.ensures ∙ c.if-refusal-ne0.false) in
+    let p = showing c.args.plan _ c.args.position c.args.board (sym c.in-Ok.ensures) in
     (p.plan, p.board)
 
 pub slice_bounds-result-end-2 : goal.slice_bounds-result-end-2
 slice_bounds-result-end-2 c =
     let q = c.args.plan in
-    let p = showing q _ c.args.position c.args.board (sym c.view_refusal-refusal.ensures ∙ c.if-refusal-ne0.false) in
+    let p = showing q _ c.args.position c.args.board (sym c.in-Ok.ensures) in
     let ok = passed_accepted q (search rules) (search rules) (search rules) p.plan in
     let room = rw (area_boards q ok) at p.room in
     let within = c.part_of-part.ensures.1 in
@@ -32,4 +29,4 @@ returns c =
     let q = c.args.plan in
     let part = c.part_of-part.result in
     let d : part.start + part.cells - part.start ≡ part.cells = omega arith in
-    rw (d, c.part_of-part.ensures.0) (placed.shown_part q c.args.work.now c.args.position c.args.board (sym c.view_refusal-refusal.ensures ∙ c.if-refusal-ne0.false))
+    rw (d, c.part_of-part.ensures.0) (placed.shown_part q c.args.work.now c.args.position c.args.board (sym c.in-Ok.ensures))
