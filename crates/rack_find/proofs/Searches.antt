@@ -8,9 +8,10 @@ use Rattle.cube_spec.specs.Choices.{full_mask, without_mask}
 use Rattle.plan_spec.specs.Accepted.{Accepted}
 use Rattle.plan_spec.specs.Refusals.{plan_refusal}
 use Rattle.plan_spec.specs.declared.types.Plan.{Plan}
-use Rattle.plan_spec.proofs.PricingLaws.{few_axes, order_fits}
+use Rattle.plan_spec.proofs.PricingLaws.{few_axes}
 use Rattle.rack_spec.specs.Counts.{span, marks, walk_count}
 use Rattle.rack_spec.specs.Finding.{plan_grid, summed_in, found, Sending}
+use Rattle.rack_spec.proofs.Tallied as Tallied
 use Rattle.rack_spec.proofs.Tallied.{parts_slot, exponent_small, span_next, span_small}
 use Rattle.rack_spec.specs.Steps.{visit, walk}
 use Rattle.rack_spec.specs.Answers.{Told, done, expands, finishes, telling, told_at}
@@ -81,7 +82,7 @@ module _ {q : Plan} {t : Tallies} {mask d n rest : ℕ} (z : Searching q t mask 
     sends = (more - n) * after
 
     pub axis_fits : axis < 8
-    axis_fits = order_fits q z.accepted d h
+    axis_fits = Tallied.axis_fits q z.accepted d h
 
     pub k_small : k ≤ 10
     k_small = exponent_small q z.accepted d h

@@ -7,13 +7,14 @@ use native.Mathlib.Omega.{arith}
 use native.Mathlib.Decide.{dec_le}
 use lib.ListN.{length, get_or}
 use lib.Pow.{pow_pos, pow_mono}
+use lib.Seq.{get_or-take}
 use Rattle.cube_spec.specs.Limits.{power_limit}
 use Rattle.cube_spec.specs.Boxes.{product}
 use Rattle.cube_spec.proofs.Products.{factor_le, product_append, product_pos, product_next, product_none}
 use Rattle.plan_spec.specs.Plans.{lists_of, board_count, step_count}
 use Rattle.plan_spec.specs.declared.types.Plan.{Plan}
 use Rattle.plan_spec.specs.Accepted.{Accepted}
-use Rattle.plan_spec.proofs.PricingLaws.{along, few_axes, shifted}
+use Rattle.plan_spec.proofs.PricingLaws.{along, few_axes, order_fits, shifted}
 use Rattle.rack_spec.specs.Grids.{Grid, Lawful, grid_of, boards}
 use Rattle.rack_spec.specs.Steps.{steps, walk}
 use Rattle.rack_spec.specs.Counts.{span, labellings, sendings, marks, walk_count}
@@ -98,6 +99,15 @@ module _ (q : Plan) (ok : Accepted q) where
 
   pub axes_same : (grid_of (lists_of q)).axes ≡ q.axes
   axes_same = unfold grid_of in ok.axes
+
+  -- the axis at place d is one of the eight slots
+  pub axis_fits : (d : ℕ) → d < q.axes → get_or q.order d 0 < 8
+  unfolding lists_of
+  axis_fits d h =
+      let n = ok.sound.places ∙ ok.axes in
+      let b = (order_fits q ok).1 d (omega arith) in
+      let e = get_or-take q.axes q.order d 0 h in
+      omega arith
 
   pub parts_slot : (d : ℕ) → d < q.axes → 2 ^ get_or q.exponents (get_or q.order d 0) 0 ≡ (grid_of (lists_of q)).parts d
   unfolding grid_of lists_of

@@ -5,10 +5,9 @@ use mathlib.Core.Path.{◌≡◌, refl, sym, ap, ◌∙◌}
 use native.Mathlib.Nat.{mul-le-mul}
 use lib.ListN.{get_or}
 use Rattle.cube_spec.specs.Boxes.{place}
-use Rattle.plan_spec.proofs.PricingLaws.{order_fits}
 use Rattle.rack_spec.specs.Grids.{board_with}
 use Rattle.rack_spec.specs.Finding.{plan_grid}
-use Rattle.rack_spec.proofs.Tallied.{axes_same, parts_shifted, parts_small, exponent_small}
+use Rattle.rack_spec.proofs.Tallied.{axis_fits, axes_same, parts_shifted, parts_small, exponent_small}
 use Rattle.rack_spec.proofs.Planned.{place_last, prefix_small}
 use borrow.Author.Rules.{rules}
 use Rattle.rack_grid.proofs.places.board_of.Goals as goal
@@ -18,7 +17,7 @@ unfolding place
 loop-d-init c = let gd = c.well_formed.0.1.1.1.1 in let ok = passed_accepted c.args.plan (search rules) (search rules) (search rules) c.requires.0 in (ok, refl)
 
 pub bounds-plan-axis : goal.bounds-plan-axis
-bounds-plan-axis c = let i = c.loop-d.invariant in let h = c.loop-d-test.true in order_fits c.args.plan i.0 c.loop-d.d h
+bounds-plan-axis c = let i = c.loop-d.invariant in let h = c.loop-d-test.true in axis_fits c.args.plan i.0 c.loop-d.d h
 
 pub overflow_shl-parts : goal.overflow_shl-parts
 overflow_shl-parts c = let i = c.loop-d.invariant in let h = c.loop-d-test.true in let e = exponent_small c.args.plan i.0 c.loop-d.d h in omega arith

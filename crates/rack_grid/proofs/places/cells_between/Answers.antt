@@ -4,9 +4,8 @@ use Prim.Native.Nat.{◌<◌}
 use mathlib.Core.Path.{◌∙◌}
 use native.Mathlib.Nat.{le_refl}
 use lib.ListN.{get_or}
-use Rattle.plan_spec.proofs.PricingLaws.{order_fits}
 use Rattle.rack_spec.proofs.Planned.{cells_begin, cells_turn}
-use Rattle.rack_spec.proofs.Tallied.{exponent_small}
+use Rattle.rack_spec.proofs.Tallied.{axis_fits, exponent_small}
 use Rattle.plan_portion.proofs.Portioned.{kept_here, label_here}
 use borrow.Author.Rules.{rules}
 use Rattle.rack_grid.proofs.places.cells_between.Goals as goal
@@ -15,10 +14,10 @@ pub loop-d-init : goal.loop-d-init
 loop-d-init c = let gd = c.well_formed.0.1.1.1.1 in let ok = passed_accepted c.args.plan (search rules) (search rules) (search rules) c.requires.0 in (ok, le_refl _, c.requires.2, cells_begin c.args.plan c.args.choice.mask c.args.labels c.args.first)
 
 pub bounds-plan-i : goal.bounds-plan-i
-bounds-plan-i c = let i = c.loop-d.invariant in let h : c.loop-d.d < c.args.plan.axes = omega (arith, c.requires.3, c.loop-d-test.true) in order_fits c.args.plan i.0 c.loop-d.d h
+bounds-plan-i c = let i = c.loop-d.invariant in let h : c.loop-d.d < c.args.plan.axes = omega (arith, c.requires.3, c.loop-d-test.true) in axis_fits c.args.plan i.0 c.loop-d.d h
 
 pub bounds-plan-i-in-loop-d : goal.bounds-plan-i-in-loop-d
-bounds-plan-i-in-loop-d c = let i = c.loop-d.invariant in let h : c.loop-d.d < c.args.plan.axes = omega (arith, c.requires.3, c.loop-d-test.true) in order_fits c.args.plan i.0 c.loop-d.d h
+bounds-plan-i-in-loop-d c = let i = c.loop-d.invariant in let h : c.loop-d.d < c.args.plan.axes = omega (arith, c.requires.3, c.loop-d-test.true) in axis_fits c.args.plan i.0 c.loop-d.d h
 
 pub kept_portion-count-requires : goal.kept_portion-count-requires
 kept_portion-count-requires c = let i = c.loop-d.invariant in let h : c.loop-d.d < c.args.plan.axes = omega (arith, c.requires.3, c.loop-d-test.true) in (exponent_small c.args.plan i.0 c.loop-d.d h, label_here c.args.plan i.0 c.loop-d.d h c.args.labels c.requires.1)

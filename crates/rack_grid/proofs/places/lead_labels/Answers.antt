@@ -3,9 +3,8 @@ use Rattle.plan_spec.proofs.Accepting.{passed_accepted}
 use Prim.Native.Nat.{◌-◌, ◌<◌}
 use mathlib.Core.Path.{refl, sym, ◌∙◌}
 use lib.ListN.{length-set}
-use Rattle.plan_spec.proofs.PricingLaws.{order_fits}
 use Rattle.rack_spec.proofs.Planned.{ranking_start, ranking_kept, ranking_summed, ranking_end}
-use Rattle.rack_spec.proofs.Tallied.{parts_shifted, exponent_small, parts_small}
+use Rattle.rack_spec.proofs.Tallied.{axis_fits, parts_shifted, exponent_small, parts_small}
 use borrow.Author.Rules.{rules}
 use Rattle.rack_grid.proofs.places.lead_labels.Goals as goal
 
@@ -13,7 +12,7 @@ pub loop-d-init : goal.loop-d-init
 loop-d-init c = let gd = c.well_formed.0.1.1.1.1 in let ok = passed_accepted c.args.plan (search rules) (search rules) (search rules) c.requires.0 in (ok, refl, ranking_start c.args.plan ok c.args.choice.mask c.args.rank)
 
 pub bounds-plan-axis : goal.bounds-plan-axis
-bounds-plan-axis c = let i = c.loop-d.invariant in let h : c.loop-d.d - 1 < c.args.plan.axes = omega (arith, c.loop-d.auto.d, c.loop-d-test.true) in order_fits c.args.plan i.0 (c.loop-d.d - 1) h
+bounds-plan-axis c = let i = c.loop-d.invariant in let h : c.loop-d.d - 1 < c.args.plan.axes = omega (arith, c.loop-d.auto.d, c.loop-d-test.true) in axis_fits c.args.plan i.0 (c.loop-d.d - 1) h
 
 pub overflow_shl-parts : goal.overflow_shl-parts
 overflow_shl-parts c = let i = c.loop-d.invariant in let h : c.loop-d.d - 1 < c.args.plan.axes = omega (arith, c.loop-d.auto.d, c.loop-d-test.true) in let e = exponent_small c.args.plan i.0 (c.loop-d.d - 1) h in omega arith
