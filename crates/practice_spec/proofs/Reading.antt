@@ -10,46 +10,53 @@ use lib.Dec.{eqb, ltb, leb}
 use lib.ListN.{length, get_or, drop, drop_of_length-le}
 use lib.Seq.{drop-cons}
 use Rattle.cube_spec.specs.Boxes.{pick}
+use Rattle.cube_spec.specs.Checks.{Reply, gives, refuses, answered, first}
 use Rattle.cube_spec.proofs.Sums.{by}
 use Rattle.report_spec.specs.Printed.{refused_line}
 use Rattle.practice_spec.specs.Draws.{practice, tape_of}
-use Rattle.practice_spec.specs.Seeds.{is_digit, digits_of, after_digits, opens_with_feed, digit_limit, seed_line, value, seed_of, seed_limit, bad_seed, practised}
-use Rattle.practice_spec.specs.inner.Judged.{seed_or}
-use Rattle.practice_spec.proofs.Lines.{taken_asks, prints_taken, prints_bad}
+use Rattle.practice_spec.specs.Seeds.{is_digit, digits_of, after_digits, opens_with_feed, digit_limit, seed_line, value, seed_of, seed_limit, bad_seed, practice_checks, practice_refusal, practised_or, practised}
+use Rattle.practice_spec.specs.inner.Judged.{seeded}
 
--- the seed, or 0, by the number of digits, whether a line feed follows them, and what they spell
-unfoldable pub judged : ℕ → Bool → ℕ → ℕ
-judged n feed v = pick (not ((leb 1 n && leb n digit_limit) && feed) || (eqb v 0 || ltb seed_limit v)) 0 v
+abbrev refused : Reply ℕ
+refused = refuses 22
+
+-- the seed, or 22, by the number of digits, whether a line feed follows them, and what they spell
+unfoldable pub judged : ℕ → Bool → ℕ → Reply ℕ
+judged n feed v = pick (not ((leb 1 n && leb n digit_limit) && feed) || (eqb v 0 || ltb seed_limit v)) refused (gives v)
 
 -- the same by the rest l of an input whose first k bytes are digits that spell v
-unfoldable pub left_over : ℕ → ℕ → List ℕ → ℕ
+unfoldable pub left_over : ℕ → ℕ → List ℕ → Reply ℕ
 left_over k v l = judged (k + length (digits_of l)) (opens_with_feed (after_digits l)) (value v (digits_of l))
 
-pub left_start : (l : List ℕ) → seed_or l ≡ left_over 0 0 l
-unfolding seed_or bad_seed seed_line seed_of left_over judged
-left_start l = rw (zero-add (length (digits_of l))) refl
+one_check : (t : Bool) (v : ℕ) → answered (pick t 22 0) v ≡ pick t refused (gives v)
+unfolding answered
+one_check true v = refl
+one_check false v = refl
+
+pub left_start : (l : List ℕ) → seeded l ≡ left_over 0 0 l
+unfolding seeded practice_refusal practice_checks first bad_seed seed_line seed_of left_over judged
+left_start l = rw (zero-add (length (digits_of l))) (one_check _ (value 0 (digits_of l)))
 
 -- ---- how a judgement ends
 
-no_feed : (n v : ℕ) → judged n false v ≡ 0
+no_feed : (n v : ℕ) → judged n false v ≡ refused
 unfolding judged
 no_feed n v = by (leb 1 n && leb n digit_limit) (λ t. rw t refl) (λ t. rw t refl)
 
-too_long_lem : (n : ℕ) (f : Bool) (v : ℕ) → digit_limit < n → judged n f v ≡ 0
+too_long_lem : (n : ℕ) (f : Bool) (v : ℕ) → digit_limit < n → judged n f v ≡ refused
 unfolding judged
 too_long_lem n f v h = rw (le-leb 1 n (omega arith), lt-leb n digit_limit h) refl
 
-good_digits : (n v : ℕ) → 1 ≤ n → n ≤ digit_limit → v ≤ seed_limit → judged n true v ≡ v
-unfolding judged
-good_digits n v h k b = rw (le-leb 1 n h, le-leb n digit_limit k, le-ltb seed_limit v b) (by (eqb v 0) (λ t. rw t (sym (eqb-true v 0 t))) (λ t. rw t refl))
+good : (n v : ℕ) → 1 ≤ v → v < 10 ^ n → n ≤ digit_limit → v ≤ seed_limit → judged n true v ≡ gives v
+good zero v p h k b = absurd (omega arith)
+good (suc n) v p h k b = unfold judged in rw (le-leb 1 (suc n) (omega arith), le-leb (suc n) digit_limit k, ne_eqb v 0 (λ z. omega arith), le-ltb seed_limit v b) refl
 
 -- no digits spell 0, which is refused as well
-good : (n v : ℕ) → v < 10 ^ n → n ≤ digit_limit → v ≤ seed_limit → judged n true v ≡ v
+zero_lem : (n v : ℕ) → v ≡ 0 → judged n true v ≡ refused
 unfolding judged
-good zero v h k b = let z : v ≡ 0 = omega arith in sym z
-good (suc n) v h k b = good_digits (suc n) v (omega arith) k b
+zero_lem n v z = by (leb 1 n && leb n digit_limit) (λ t. rw (t, eq-eqb v 0 z) refl) (λ t. rw t refl)
 
-too_large_lem : (n v : ℕ) → seed_limit < v → judged n true v ≡ 0
+too_large_lem : (n v : ℕ) → seed_limit < v → judged n true v ≡ refused
 unfolding judged
 too_large_lem n v h = by (leb 1 n && leb n digit_limit) (λ t. rw (t, lt-ltb seed_limit v h) (by (eqb v 0) (λ u. rw u refl) (λ u. rw u refl))) (λ t. rw t refl)
 
@@ -59,7 +66,7 @@ below_digit : (b : ℕ) → b < 48 → is_digit b ≡ false
 unfolding is_digit
 below_digit b h = rw (lt-leb 48 b h) refl
 
-pub left_none : (k v : ℕ) → left_over k v [] ≡ 0
+pub left_none : (k v : ℕ) → left_over k v [] ≡ refused
 unfolding left_over digits_of after_digits value
 left_none k v = no_feed (k + 0) v
 
@@ -68,7 +75,7 @@ left_stops : (k v b : ℕ) (l : List ℕ) → is_digit b ≡ false → left_over
 unfolding left_over digits_of after_digits value
 left_stops k v b l t = rw t refl
 
-pub left_other : (k v b : ℕ) (l : List ℕ) → is_digit b ≡ false → (b ≡ 10 → ⊥) → left_over k v (b ∷ l) ≡ 0
+pub left_other : (k v b : ℕ) (l : List ℕ) → is_digit b ≡ false → (b ≡ 10 → ⊥) → left_over k v (b ∷ l) ≡ refused
 left_other k v b l t h = left_stops k v b l t ∙ rw (ne_eqb b 10 h) (no_feed (k + 0) v)
 
 left_digit : (k v b : ℕ) (l : List ℕ) → is_digit b ≡ true → left_over k v (b ∷ l) ≡ left_over (k + 1) (10 * v + (b - 48)) l
@@ -77,41 +84,44 @@ left_digit k v b l t =
     let e : k + suc (length (digits_of l)) ≡ k + 1 + length (digits_of l) = omega arith in
     rw t (ap (λ n. judged n (opens_with_feed (after_digits l)) (value (10 * v + (b - 48)) (digits_of l))) e)
 
-left_long : (k v b : ℕ) (l : List ℕ) → is_digit b ≡ true → k ≡ digit_limit → left_over k v (b ∷ l) ≡ 0
+left_long : (k v b : ℕ) (l : List ℕ) → is_digit b ≡ true → k ≡ digit_limit → left_over k v (b ∷ l) ≡ refused
 unfolding left_over
 left_long k v b l t e = left_digit k v b l t ∙ too_long_lem (k + 1 + length (digits_of l)) _ _ (omega arith)
 
 -- ---- what the code does with the byte at i, after i digits that spell v
 
-module _ (input : List ℕ) (i v : ℕ) (h : i < length input) (e : seed_or input ≡ left_over i v (drop i input)) where
+module _ (input : List ℕ) (i v : ℕ) (h : i < length input) (e : seeded input ≡ left_over i v (drop i input)) where
   abbrev b : ℕ
   b = get_or input i 0
 
   abbrev rest : List ℕ
   rest = drop (suc i) input
 
-  opened : seed_or input ≡ left_over i v (b ∷ rest)
+  opened : seeded input ≡ left_over i v (b ∷ rest)
   opened = e ∙ ap (left_over i v) (drop-cons input i 0 h)
 
-  fed : b ≡ 10 → seed_or input ≡ judged i true v
+  fed : b ≡ 10 → seeded input ≡ judged i true v
   fed z = opened ∙ left_stops i v b rest (below_digit b (omega arith)) ∙ rw (eq-eqb b 10 z, add-zero i) refl
 
-  pub reads_large : b ≡ 10 → seed_limit < v → 0 ≡ seed_or input
+  pub reads_zero : b ≡ 10 → v ≡ 0 → refused ≡ seeded input
+  reads_zero z k = sym (fed z ∙ zero_lem i v k)
+
+  pub reads_large : b ≡ 10 → seed_limit < v → refused ≡ seeded input
   reads_large z k = sym (fed z ∙ too_large_lem i v k)
 
-  pub reads_whole : b ≡ 10 → v < 10 ^ i → i ≤ digit_limit → v ≤ seed_limit → v ≡ seed_or input
-  reads_whole z k l m = sym (fed z ∙ good i v k l m)
+  pub reads_whole : b ≡ 10 → 1 ≤ v → v < 10 ^ i → i ≤ digit_limit → v ≤ seed_limit → gives v ≡ seeded input
+  reads_whole z p k l m = sym (fed z ∙ good i v p k l m)
 
-  pub reads_other : is_digit b ≡ false → (b ≡ 10 → ⊥) → 0 ≡ seed_or input
+  pub reads_other : is_digit b ≡ false → (b ≡ 10 → ⊥) → refused ≡ seeded input
   reads_other t z = sym (opened ∙ left_other i v b rest t z)
 
-  pub reads_digit : is_digit b ≡ true → seed_or input ≡ left_over (i + 1) (10 * v + (b - 48)) (drop (i + 1) input)
+  pub reads_digit : is_digit b ≡ true → seeded input ≡ left_over (i + 1) (10 * v + (b - 48)) (drop (i + 1) input)
   reads_digit t = let q : suc i ≡ i + 1 = omega arith in opened ∙ left_digit i v b rest t ∙ ap (λ k. left_over (i + 1) (10 * v + (b - 48)) (drop k input)) q
 
-  pub reads_long : is_digit b ≡ true → i ≡ digit_limit → 0 ≡ seed_or input
+  pub reads_long : is_digit b ≡ true → i ≡ digit_limit → refused ≡ seeded input
   reads_long t z = sym (opened ∙ left_long i v b rest t z)
 
-pub reads_end : (input : List ℕ) (i v : ℕ) → seed_or input ≡ left_over i v (drop i input) → length input ≤ i → 0 ≡ seed_or input
+pub reads_end : (input : List ℕ) (i v : ℕ) → seeded input ≡ left_over i v (drop i input) → length input ≤ i → refused ≡ seeded input
 reads_end input i v e h = sym (e ∙ ap (left_over i v) (drop_of_length-le input h) ∙ left_none i v)
 
 -- ---- sizes
@@ -125,26 +135,26 @@ next_value i v x h k = let e : 10 ^ (i + 1) ≡ 10 * 10 ^ i = (let q : i + 1 ≡
 
 -- ---- what is printed
 
-pub prints_refused : (input : List ℕ) (seed : ℕ) → seed ≡ seed_or input → seed ≡ 0 → practised input ≡ refused_line 22
-unfolding seed_or
-prints_refused input seed e z = by (bad_seed input)
-    (λ t. prints_bad input t)
-    (λ t. absurd (let q : seed ≡ seed_of input = e ∙ rw t refl in let l = (taken_asks input t).least in omega arith))
+-- the tape of a seed, or the line of a refusal
+abbrev pub printed_by : Reply ℕ → List ℕ
+printed_by (gives seed) = tape_of (practice seed)
+printed_by (refuses n) = refused_line n
 
-pub prints_tape : (input : List ℕ) (seed : ℕ) → seed ≡ seed_or input → (seed ≡ 0 → ⊥) → practised input ≡ tape_of (practice seed)
-unfolding seed_or
-prints_tape input seed e z = by (bad_seed input)
-    (λ t. absurd (z (e ∙ rw t refl)))
-    (λ t. let q : seed ≡ seed_of input = e ∙ rw t refl in prints_taken input t ∙ ap (λ s. tape_of (practice s)) (sym q))
+practised_by : (n seed : ℕ) → practised_or n seed ≡ printed_by (answered n seed)
+unfolding practised_or answered
+practised_by zero seed = refl
+practised_by (suc n) seed = refl
+
+pub prints_by : (input : List ℕ) (r : Reply ℕ) → r ≡ seeded input → practised input ≡ printed_by r
+unfolding practised seeded
+prints_by input r e = practised_by (practice_refusal input) (seed_of input) ∙ ap printed_by (sym e)
 
 -- ---- how much of an input tells
 
-alike : (a b : List ℕ) → seed_or a ≡ seed_or b → practised a ≡ practised b
-alike a b e = by (eqb (seed_or b) 0)
-    (λ t. let z = eqb-true (seed_or b) 0 t in prints_refused a (seed_or b) (sym e) z ∙ sym (prints_refused b (seed_or b) refl z))
-    (λ t. let z = eqb-false (seed_or b) 0 t in prints_tape a (seed_or b) (sym e) z ∙ sym (prints_tape b (seed_or b) refl z))
+alike : (a b : List ℕ) → seeded a ≡ seeded b → practised a ≡ practised b
+alike a b e = prints_by a (seeded b) (sym e) ∙ sym (prints_by b (seeded b) refl)
 
-left_passed : (k v : ℕ) (l : List ℕ) → digit_limit < k → left_over k v l ≡ 0
+left_passed : (k v : ℕ) (l : List ℕ) → digit_limit < k → left_over k v l ≡ refused
 unfolding left_over
 left_passed k v l h = too_long_lem (k + length (digits_of l)) (opens_with_feed (after_digits l)) (value v (digits_of l)) (omega arith)
 
