@@ -62,8 +62,10 @@ module _ {space₀ space : List ℕ} {used : ℕ} (w : Read space₀ space used)
   pub stops_ended : Stops space (record { used = used; ended = true })
   stops_ended = record { most = w.fits; before = λ i h. w.digits i (omega arith); last = λ e k. clash e }
 
-  pub stops_full : length space ≤ used → Stops space (record { used = used; ended = false })
-  stops_full k = record { most = w.fits; before = λ i h. w.digits i (omega arith); last = λ e l. absurd (omega arith) }
+  pub stops_full : (n : ℕ) → n ≡ used → length space ≤ used → Stops space (record { used = n; ended = false }) × Keeps space₀ space n
+  stops_full n e k =
+      let f = w.fits in
+      (record { most = omega arith; before = λ i h. w.digits i (omega arith); last = λ u l. absurd (omega arith) }, record { same = w.keeps.same; rest = λ i h. w.keeps.rest i (omega arith) })
 
   -- one byte more
   module _ (b : ℕ) (h : used < length space) where
@@ -143,8 +145,5 @@ module _ (space₀ space space' : List ℕ) (used got b : ℕ) (o : Opening) (w 
   pub turn_last : o.ended ≡ false → is_digit b ≡ false → Stops space' o × Keeps space₀ space' o.used
   turn_last t d = let x = more_here t in rw (x.0, x.1) (stops_last w b h d, keeps_more w b h)
 
-  pub turn_on : o.ended ≡ false → is_digit b ≡ true → Read space₀ space' o.used
-  turn_on t d = let x = more_here t in rw (x.0, x.1) (reads_on w b h d)
-
-  pub turn_less : o.ended ≡ false → length space' - o.used < length space - used
-  turn_less t = let x = more_here t in let n = length-set space used b in rw (x.0, x.1) (omega arith)
+  pub turn_on : o.ended ≡ false → is_digit b ≡ true → Read space₀ space' (used + 1)
+  turn_on t d = let x = more_here t in rw x.1 (reads_on w b h d)

@@ -3,7 +3,6 @@ ghost use Rattle.std.specs.Prelude.{◌≡◌, ◌<◌, length};
 ghost use Rattle.practice.specs.Openings.{opening_after, space_after, Stops, Keeps};
 
 use crate::types::Opening;
-use practice_draw::seeds::is_digit;
 
 // After a read of one byte: the byte at the next place, or nothing where the read gave none, and then the input ended.
 fn put_byte(space: &mut [u8], used: usize, got: usize, b: u8) -> Opening
@@ -11,10 +10,7 @@ fn put_byte(space: &mut [u8], used: usize, got: usize, b: u8) -> Opening
     ensures { (result ≡ opening_after used got) × (space.new ≡ space_after space.old used got b) }
 {
     if got == 0 {
-        return Opening {
-            used: used,
-            ended: true,
-        };
+        return Opening { used, ended: true };
     }
     space[used] = b;
     Opening {
@@ -27,22 +23,17 @@ fn put_byte(space: &mut [u8], used: usize, got: usize, b: u8) -> Opening
 pub fn read_line(space: &mut [u8]) -> Opening
     ensures { Stops space.new result × Keeps space.old space.new result.used }
 {
-    let mut used: usize = 0;
-    while used < space.len() {
+    for used in 0..space.len() {
         let mut byte = [0u8; 1];
         let got = io::read_full(0, &mut byte);
         let b = byte[0];
         let opening = put_byte(space, used, got, b);
-        if opening.ended {
+        if opening.ended || !b.is_ascii_digit() {
             return opening;
         }
-        if !is_digit(b) {
-            return opening;
-        }
-        used = opening.used;
     }
     Opening {
-        used: used,
+        used: space.len(),
         ended: false,
     }
 }

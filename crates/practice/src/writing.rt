@@ -13,7 +13,7 @@ use practice_draw::printing::practise;
 fn write(input: &[u8], out: &[u8], used: usize) -> bool
     requires { (used ≤ length out.now) × (take used out.now ≡ practised input.now) }
 {
-    io::write_all(1, &out[0..used])
+    io::write_all(1, &out[..used])
 }
 
 // From the bytes read to the bytes written; gives how many there are.
@@ -32,6 +32,5 @@ pub fn print(space: &[u8], opening: Opening, out: &mut [u8]) -> usize
     requires { (digit_limit < length space.now) × Stops space.now opening × (longest_tape ≤ length out.old) }
     ensures { PrintsAfter space.now opening out.old result out.new }
 {
-    let used = opening.used;
-    print_for(&space[0..used], out)
+    print_for(&space[..opening.used], out)
 }

@@ -1,11 +1,11 @@
 -- Commands put one after the other in a lent buffer, up to the whole tape of a seed.
-use Rattle.std.proofs.Common.{◌≡◌, ℕ, suc, ◌+◌, ◌*◌, ◌%◌, ◌^◌, ◌<◌, ◌≤◌, ltb, List, [], ◌∷◌, ◌++◌, length, get_or, take, set, ℤ, sym, refl, ap, ◌∙◌, append_assoc, append-nil, arith, length-append, length-take-le, take-suc, w32, of_z, ltb-false, ltb-true}
+use Rattle.std.proofs.Common.{◌≡◌, ℕ, suc, ◌+◌, ◌*◌, ◌/◌, ◌%◌, ◌<◌, ◌≤◌, ltb, List, [], ◌∷◌, ◌++◌, length, get_or, take, set, ℤ, sym, refl, ap, ◌∙◌, append_assoc, append-nil, arith, length-append, length-take-le, take-suc, w32, of_z, ltb-false, ltb-true}
 use lib.Seq.{sets}
 use Rattle.cube_spec.specs.Choices.{points}
 use Rattle.cube_spec.proofs.Slots.{padded_length, padded_take}
 use Rattle.cube_spec.proofs.Stores as Stores
 use Rattle.cube_spec.proofs.Sums.{by}
-use Rattle.tape_spec.specs.Writing.{axis_command, boards_command, point_command, end_command, each, headed, written}
+use Rattle.tape_spec.specs.Writing.{bytes, axis_command, boards_command, point_command, end_command, each, headed, written}
 use Rattle.tape_spec.proofs.Writing.{each_length, axis_length_lem, point_length, written_length}
 use Rattle.practice_spec.specs.Draws.{round, after, drawn, axes_of, lengths_of, power_of, point_by, points_of, practice, tape_of}
 use Rattle.practice_spec.specs.inner.Judged.{longest_tape}
@@ -14,23 +14,20 @@ use Rattle.practice_spec.proofs.Accepted as Accepted
 use Rattle.practice_draw.specs.declared.types.Shape.{Shape}
 use Rattle.practice_draw.specs.inner.Shapes.{shape_of}
 
--- ---- stores
+-- ---- numbers
 
-pub three : (l : List ℕ) (at a b c : ℕ) → set (set (set l at a) (at + 1) b) (at + 2) c ≡ sets l at (a ∷ b ∷ c ∷ [])
-three l at a b c = let e : at + 1 ≡ suc at = omega arith in let f : at + 2 ≡ suc (suc at) = omega arith in rw (e, f) refl
-
-pub five : (l : List ℕ) (at a b c d e : ℕ) → set (set (set (set (set l at a) (at + 1) b) (at + 2) c) (at + 3) d) (at + 4) e ≡ sets l at (a ∷ b ∷ c ∷ d ∷ e ∷ [])
-five l at a b c d e =
-    let p : at + 1 ≡ suc at = omega arith in
-    let q : at + 2 ≡ suc (suc at) = omega arith in
-    let r : at + 3 ≡ suc (suc (suc at)) = omega arith in
-    let s : at + 4 ≡ suc (suc (suc (suc at))) = omega arith in
-    rw (p, q, r, s) refl
+-- the four bytes of a number
+pub word_bytes : (x : ℕ) → x % 256 ∷ (x / 256) % 256 ∷ (x / 65536) % 256 ∷ (x / 16777216) % 256 ∷ [] ≡ bytes 4 x
+unfolding bytes
+word_bytes x =
+    let e : x / 65536 ≡ x / 256 / 256 = omega arith in
+    let f : x / 16777216 ≡ x / 256 / 256 / 256 = omega arith in
+    rw (e, f) refl
 
 -- a point modulo 2^32
-pub point_bits : (v draw : ℕ) → v < 2 ^ 32 → (v + 1000) % 2 ^ 32 ≡ draw % 2001 → v ≡ of_z w32 (point_by draw)
+pub point_bits : (draw : ℕ) → (draw % 2001 + 4294966296) % 4294967296 ≡ of_z w32 (point_by draw)
 unfolding point_by
-point_bits v draw f e = by (ltb (draw % 2001) 1000)
+point_bits draw = by (ltb (draw % 2001) 1000)
     (λ t. rw t (let h = ltb-true (draw % 2001) 1000 t in omega arith))
     (λ t. rw t (let h = ltb-false (draw % 2001) 1000 t in omega arith))
 
@@ -78,13 +75,12 @@ point_put out out' from i at s draw e d eo =
 
 -- the stores of the 42 after the 41s
 pub head_put : (out out₁ ds : List ℕ) (p at : ℕ) → at ≡ 3 * length ds → out₁ ≡ sets out 0 (each axis_command ds)
-    → set (set out₁ at 0x42) (at + 1) p ≡ sets out 0 (each axis_command ds ++ boards_command p)
+    → sets out₁ at (0x42 ∷ p ∷ []) ≡ sets out 0 (each axis_command ds ++ boards_command p)
 unfolding boards_command
 head_put out out₁ ds p at e eo =
     let n = each_length axis_command 3 axis_length_lem ds in
     let a : at ≡ 0 + length (each axis_command ds) = omega arith in
-    let b : at + 1 ≡ suc (0 + length (each axis_command ds)) = omega arith in
-    rw (eo, b, a) (sym (Stores.joined out 0 (each axis_command ds) (0x42 ∷ p ∷ [])))
+    rw (eo, a) (sym (Stores.joined out 0 (each axis_command ds) (0x42 ∷ p ∷ [])))
 
 head_length : (ds : List ℕ) (p : ℕ) → length (each axis_command ds ++ boards_command p) ≡ 3 * length ds + 2
 unfolding boards_command

@@ -19,10 +19,7 @@ pub fn next(x: u32) -> u32
 fn power_by(draw: u32, room: u32) -> u8
     ensures { result ≡ draw % (1 + min 3 room) }
 {
-    if room < 3 {
-        return (draw % (1 + room)) as u8;
-    }
-    (draw % 4) as u8
+    (draw % (1 + room.min(3))) as u8
 }
 
 // Everything but the points.
@@ -33,22 +30,18 @@ pub fn shape_of(seed: u32) -> Shape
     let axes = (1 + state % 4) as u8;
     let mut lengths = [0u32; 8];
     let mut points: u32 = 1;
-    let mut d: u8 = 0;
-    while d < axes {
+    for d in 0..usize::from(axes) {
         state = next(state);
         let length = 1 + state % 9;
-        lengths[d as usize] = length;
-        points = points * length;
-        d += 1;
+        lengths[d] = length;
+        points *= length;
     }
-    let room = room_of(lengths, axes);
     let draw = next(state);
-    let p = power_by(draw, room);
     Shape {
-        axes: axes,
-        lengths: lengths,
-        p: p,
-        points: points,
+        axes,
+        lengths,
+        p: power_by(draw, room_of(&lengths[..usize::from(axes)])),
+        points,
         state: draw,
     }
 }

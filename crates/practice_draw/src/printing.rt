@@ -8,18 +8,14 @@ use crate::seeds::seed_of;
 use crate::tapes::put_tape;
 use report_line::reports::refused_line;
 
-// The refusal of the seed line.
-const BAD_SEED: u8 = 22;
-
 // The bytes printed for the bytes read, at the start of a lent buffer; gives how many there are.
 pub fn practise(input: &[u8], out: &mut [u8]) -> usize
     requires { longest_tape ≤ length out.old }
     ensures { (result ≡ length (practised input.now)) × (result ≤ length out.new)
         × (out.new ≡ sets out.old 0 (practised input.now)) }
 {
-    let seed = seed_of(input);
-    if seed == 0 {
-        return refused_line(out, BAD_SEED);
+    match seed_of(input) {
+        Ok(seed) => put_tape(out, seed),
+        Err(refusal) => refused_line(out, refusal.number()),
     }
-    put_tape(out, seed)
 }

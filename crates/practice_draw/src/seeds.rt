@@ -1,7 +1,9 @@
 // The seed line.
 ghost use Rattle.std.specs.Prelude.{◌≡◌};
-ghost use Rattle.practice_spec.specs.Seeds.{is_digit};
-ghost use Rattle.practice_spec.specs.inner.Judged.{seed_or};
+ghost use Rattle.cube_spec.specs.Refusals.{reply_of};
+ghost use Rattle.practice_spec.specs.inner.Judged.{seeded};
+
+use cube_spec::refusals::Refusal;
 
 // The digits of a seed, at most; and with the line feed.
 const SEED_DIGITS: usize = 10;
@@ -11,35 +13,22 @@ pub const SEED_LINE: usize = 11;
 // The largest seed.
 const LAST_SEED: u64 = 4_294_967_295;
 
-// Is a byte a decimal digit?
-pub fn is_digit(b: u8) -> bool
-    ensures { result ≡ is_digit b }
-{
-    b'0' <= b && b <= b'9'
-}
-
-// The seed that the input opens with, or 0 where 22 is due.
-pub fn seed_of(input: &[u8]) -> u32
-    ensures { result ≡ seed_or input.now }
+// The seed that the input opens with.
+pub fn seed_of(input: &[u8]) -> Result<u32, Refusal>
+    ensures { reply_of result ≡ seeded input.now }
 {
     let mut value: u64 = 0;
-    let mut i: usize = 0;
-    while i < input.len() {
-        let b = input[i];
+    for (i, &b) in input.iter().enumerate() {
         if b == b'\n' {
-            if LAST_SEED < value {
-                return 0;
+            if value == 0 || LAST_SEED < value {
+                return Err(Refusal::Seed);
             }
-            return value as u32;
+            return Ok(value as u32);
         }
-        if !is_digit(b) {
-            return 0;
+        if !b.is_ascii_digit() || i == SEED_DIGITS {
+            return Err(Refusal::Seed);
         }
-        if i == SEED_DIGITS {
-            return 0;
-        }
-        value = 10 * value + (b - b'0') as u64;
-        i += 1;
+        value = 10 * value + u64::from(b - b'0');
     }
-    0
+    Err(Refusal::Seed)
 }

@@ -5,23 +5,19 @@ ghost use Rattle.tape_spec.specs.Writing.{axis_command, boards_command, point_co
 ghost use Rattle.practice_spec.specs.Draws.{drawn, point_by, practice, tape_of};
 ghost use Rattle.practice_spec.specs.inner.Judged.{longest_tape};
 
-use crate::commands::{BOARDS, END, put_axis, put_point};
+use crate::commands::{BOARDS, END, put_axis, put_command, put_point};
 use crate::draws::{next, shape_of};
 use crate::types::Shape;
 
 // A 41 for each length; gives the place after them.
-fn put_axes(out: &mut [u8], lengths: [u32; 8], axes: u8) -> usize
-    requires { (axes ≤ length lengths) × (3 * axes ≤ length out.old) }
-    ensures { (result ≡ 3 * axes) × (out.new ≡ sets out.old 0 (each axis_command (take axes lengths))) }
+fn put_axes(out: &mut [u8], lengths: &[u32]) -> usize
+    requires { 3 * length lengths.now ≤ length out.old }
+    ensures { (result ≡ 3 * length lengths.now) × (out.new ≡ sets out.old 0 (each axis_command lengths.now)) }
 {
-    let mut at: usize = 0;
-    let mut d: u8 = 0;
-    while d < axes {
-        put_axis(out, at, lengths[d as usize]);
-        at += 3;
-        d += 1;
+    for (d, &length) in lengths.iter().enumerate() {
+        put_axis(out, 3 * d, length);
     }
-    at
+    3 * lengths.len()
 }
 
 // A 56 for each of so many draws; gives the place after them.
@@ -31,24 +27,21 @@ fn put_points(out: &mut [u8], from: usize, count: u32, start: u32) -> usize
 {
     let mut state = start;
     let mut at = from;
-    let mut i: u32 = 0;
-    while i < count {
+    for _i in 0..count {
         state = next(state);
         put_point(out, at, state);
         at += 5;
-        i += 1;
     }
     at
 }
 
 // The 41s and the 42; gives the place after them.
-fn put_head(out: &mut [u8], lengths: [u32; 8], axes: u8, p: u8) -> usize
-    requires { (axes ≤ length lengths) × (3 * axes + 2 ≤ length out.old) }
-    ensures { (result ≡ 3 * axes + 2) × (out.new ≡ sets out.old 0 (each axis_command (take axes lengths) ++ boards_command p)) }
+fn put_head(out: &mut [u8], lengths: &[u32], p: u8) -> usize
+    requires { 3 * length lengths.now + 2 ≤ length out.old }
+    ensures { (result ≡ 3 * length lengths.now + 2) × (out.new ≡ sets out.old 0 (each axis_command lengths.now ++ boards_command p)) }
 {
-    let at = put_axes(out, lengths, axes);
-    out[at] = BOARDS;
-    out[at + 1] = p;
+    let at = put_axes(out, lengths);
+    put_command(out, at, BOARDS, &[p]);
     at + 2
 }
 
@@ -58,8 +51,7 @@ fn put_shape(out: &mut [u8], shape: Shape) -> usize
     ensures { (result ≡ 3 * shape.axes + 5 * shape.points + 3)
         × (out.new ≡ sets out.old 0 (written (take shape.axes shape.lengths) shape.p (drawn point_by shape.points shape.state))) }
 {
-    let lengths = shape.lengths;
-    let from = put_head(out, lengths, shape.axes, shape.p);
+    let from = put_head(out, &shape.lengths[..usize::from(shape.axes)], shape.p);
     let end = put_points(out, from, shape.points, shape.state);
     out[end] = END;
     end + 1

@@ -1,5 +1,5 @@
 // What is drawn before the points: the lengths, p, how many points there are, and the state that their draws go on from.
-#[derive(Clone, Copy)]
+#[derive(Clone, Copy, Debug, PartialEq, Eq)]
 pub struct Shape {
     pub axes: u8,
     pub lengths: [u32; 8],

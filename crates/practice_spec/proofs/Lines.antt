@@ -14,6 +14,7 @@ use Rattle.cube_spec.proofs.Sums.{by}
 use Rattle.plan_spec.proofs.Accepting.{or_none}
 use Rattle.tape_spec.specs.Writing.{Every}
 use Rattle.report_spec.specs.Printed.{refused_line}
+use Rattle.std.specs.Char.{is_ascii_digit}
 use Rattle.practice_spec.specs.Draws.{practice, tape_of}
 use Rattle.practice_spec.specs.Seeds.{is_digit, digits_of, after_digits, opens_with_feed, digit_limit, seed_line, value, seed_of, seed_limit, bad_seed, practice_checks, practice_refusal, practised_or, practised}
 use Rattle.practice_spec.specs.Exercises.{Digit, spelt, Asks}
@@ -109,3 +110,8 @@ prints_taken input e = rw e refl
 pub prints_bad : (input : List ℕ) → bad_seed input ≡ true → practised input ≡ refused_line 22
 unfolding practised practised_or practice_refusal practice_checks first
 prints_bad input e = rw e refl
+
+-- the library's test of a digit is the definition's
+pub digit_is : (b : ℕ) → is_digit b ≡ is_ascii_digit b
+unfolding is_digit
+digit_is b = refl

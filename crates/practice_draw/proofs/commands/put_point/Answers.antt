@@ -1,13 +1,12 @@
--- `put_point` stores the five bytes of a 56: the point modulo 2^32.
-use Rattle.std.proofs.Common.{◌/◌, ◌%◌, ◌∷◌, ap, ◌∙◌, arith}
-use lib.Seq.{sets}
-use Rattle.practice_draw.proofs.Putting.{five, point_bits}
+-- `put_point` puts a 56's operand: the point modulo 2^32.
+use Rattle.std.proofs.Common.{◌∷◌, ap, ◌∙◌}
+use Rattle.std.proofs.lemmas.List.Edits.{sets}
+use Rattle.practice_draw.proofs.Putting.{word_bytes, point_bits}
 use Rattle.tape_spec.specs.Writing.{point_command, bytes}
 use Rattle.practice_draw.proofs.commands.put_point.Goals as goal
 
 pub returns : goal.returns
-unfolding point_command bytes
-returns c = let s = c.args in
-    let v = c.wrapping_sub_u32-v.result in
-    five s.out.now s.at 0x56 (v % 256) (v / 256 % 256) (v / 256 / 256 % 256) (v / 256 / 256 / 256 % 256)
-    ∙ ap (λ x. sets s.out.now s.at (0x56 ∷ bytes 4 x)) (point_bits v s.draw (omega arith) c.wrapping_sub_u32-v.ensures.value)
+unfolding point_command
+returns c =
+    let a = c.args in
+    c.put_command.ensures ∙ ap (λ x. sets a.out.now a.at (0x56 ∷ x)) (c.to_le_bytes.ensures ∙ word_bytes _ ∙ ap (bytes 4) (point_bits a.draw))
