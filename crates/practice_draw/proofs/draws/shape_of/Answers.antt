@@ -13,8 +13,8 @@ loop-d-preserved c = draws_next c.loop-d.invariant c.next-state-in-loop-d.result
 
 pub returns : goal.returns
 returns c = let l = c.loop-d in
-    let m = c.room_of in
+    let m = rw c.from.ensures at c.room_of.ensures in
     let x = c.next-draw in
     let p = c.power_by in
-    shape_whole c.args.seed c.next-state.result l.d l.state l.lengths l.points m.result x.result p.result
-    c.next-state.ensures (omega arith) l.invariant m.ensures x.ensures p.ensures
+    shape_whole c.args.seed c.next-state.result l.d l.state l.lengths l.points c.room_of.result x.result p.result
+    c.next-state.ensures (omega arith) l.invariant m x.ensures p.ensures
