@@ -60,6 +60,15 @@ module _ {A : Type 0} (z : A) where
           same ne (yes q) = table_there i f j q ∙ sym (table_there (i + 1) f j (omega arith))
           same ne (no q) = table_or_spare i f j (omega (arith, q)) ∙ sym (table_or_spare (i + 1) f j (omega (arith, q, ne)))
 
+  -- a table out of the slots again
+  pub spaced_table : (n i : ℕ) (f : ℕ → A) (r : List A) → n ≤ axis_limit → i ≡ n → r ≡ spaced (table i f) → take n r ≡ table n f
+  spaced_table n i f r few e s =
+      let t = table_length n 0 f in
+      let k = spaced_length (table n f) in
+      let size = length-take-le n (spaced (table n f)) (omega arith) in
+      ap (take n) (s ∙ ap (λ k. spaced (table k f)) e)
+      ∙ ext_get_or z (take n (spaced (table n f))) (table n f) (size ∙ sym t) (λ j h. get_or-take n (spaced (table n f)) j z (omega arith) ∙ spaced_at (table n f) j (omega arith))
+
 -- ---- numbers, with zeros past the last
 
 pub padded_length : (l : List ℕ) → length (padded l) ≡ axis_limit

@@ -13,7 +13,7 @@ use Rattle.plan_spec.specs.Answers.{prices_of, pricing}
 use Rattle.rack_spec.specs.Grids.{grid_of, mask_of, summed}
 use Rattle.rack_spec.specs.Pointed.{HasPoint, Pointed}
 
--- "Demand 3 compares parents and divisions jointly.": of the lengths l, the p used and the planner's answer r
+-- "Demand 3 compares parents and divisions jointly.": of the lengths l, the p used and what the planner gives, r
 pub record Best (l : List ℕ) (p : ℕ) (r : Planned) : Type 0 where
   pub moved_least : (e : Division l p) (w : Way (length l)) → r.prices.moved ≤ moved_by l e w
   pub added_least : (w : Way (length l)) → r.prices.added ≤ added_by l w

@@ -21,7 +21,8 @@ use Rattle.plan_spec.specs.Answers.{prices_of, planned_of, planning, arrangement
 use Rattle.plan_spec.proofs.Places.{order_length}
 use Rattle.plan_spec.proofs.Demand.{plan_sound}
 use Rattle.plan_spec.proofs.Accepting.{used_le, planning_passed, planning_accepted, planned_accepted, lists_slotted}
-use Rattle.plan_spec.proofs.Arranging.{place_below, table_cong}
+use Rattle.cube_spec.proofs.Tables.{table_cong}
+use Rattle.plan_spec.proofs.Arranging.{place_below}
 use Rattle.plan_spec.proofs.PricingLaws.{answer_given, answer_refused, given_is, refused_is}
 
 module _ (l : List ℕ) (p : ℕ) where
@@ -79,6 +80,9 @@ pub record Passed (l : List ℕ) (p used : ℕ) : Type 0 where
   pub none : planning_refusal l p ≡ 0
   pub fitted : used ≡ power_used l p
 
+pub passed : {l : List ℕ} {p used : ℕ} → planning_refusal l p ≡ 0 → used ≡ power_used l p → Passed l p used
+passed z e = record { none = z; fitted = e }
+
 module _ {l : List ℕ} {p used : ℕ} (k : Passed l p used) where
   pub few_lengths : length l ≤ axis_limit
   few_lengths = (planning_passed l p k.none).0.few
@@ -90,7 +94,7 @@ module _ {l : List ℕ} {p used : ℕ} (k : Passed l p used) where
   pub used_asked : (used ≤ p) × (p ≤ power_limit)
   used_asked = (rw k.fitted (used_le l p), (planning_passed l p k.none).1)
 
-  module _ {v : Arrangement} (arranged : v ≡ arrangement l used) where
+  module _ (v : Arrangement) (arranged : v ≡ arrangement l used) where
     ordered : v.order ≡ padded (order l)
     unfolding arrangement
     ordered = ap (λ (w : Arrangement). w.order) arranged
@@ -99,16 +103,27 @@ module _ {l : List ℕ} {p used : ℕ} (k : Passed l p used) where
     unfolding arrangement
     cut = ap (λ (w : Arrangement). w.exponents) arranged
 
-    pub placed : (a : ℕ) → a < length l → find a (take (length l) v.order) < length l
-    placed a h = rw ordered (found l used fine_lengths few_lengths a h)
+    -- the order out of its slots
+    abbrev out : List ℕ
+    out = take (length l) v.order
 
-    module _ {ds ks : List ℕ} (slots : ds ≡ padded l) (spread : ks ≡ padded (table (length l) (λ a. get_or v.exponents (find a (take (length l) v.order)) 0))) where
+    long : length out ≡ length l
+    long = ap (λ o. length (take (length l) o)) ordered ∙ ap length (padded_take (order l) (length l) (order_length l) few_lengths) ∙ order_length l
+
+    pub placed : (a : ℕ) → a < length out → find a out < length out
+    placed a h =
+        let n = long in
+        let b : find a out < length l = rw ordered (found l used fine_lengths few_lengths a (omega arith)) in
+        omega arith
+
+    module _ (ds ks : List ℕ) (slots : ds ≡ padded l) (spread : ks ≡ padded (table (length out) (λ a. get_or v.exponents (find a out) 0))) where
       abbrev made : Plan
       made = record { axes = length l; p = used; lengths = ds; order = v.order; exponents = ks }
 
       by_axis : ks ≡ padded (exponents l used)
       by_axis =
           spread
+          ∙ ap (λ n. padded (table n (λ a. get_or v.exponents (find a out) 0))) long
           ∙ ap₂ (λ (k o : List ℕ). padded (table (length l) (λ a. get_or k (find a (take (length l) o)) 0))) cut ordered
           ∙ exponents_slots l used fine_lengths few_lengths
 

@@ -1,28 +1,26 @@
 -- The planner's arrays are those of the rule.
-use Prim.Native.Nat.{ℕ, zero, suc, ◌+◌, ◌-◌, ◌*◌, ◌≤◌, ◌<◌}
-use mathlib.Core.Path.{◌≡◌, sym, ◌∙◌, refl, ap, ap₂}
-use mathlib.Core.List.{List, ◌∷◌}
+use Prim.Native.Nat.{ℕ, suc, ◌+◌, ◌-◌, ◌*◌, ◌≤◌, ◌<◌}
+use mathlib.Core.Path.{◌≡◌, ◌∙◌, ap, ap₂}
+use mathlib.Core.List.{List, ◌++◌}
+use native.Mathlib.Nat.{zero-add}
 use native.Mathlib.Omega.{arith}
-use lib.ListN.{length, get_or, take, replicate, get_or-replicate}
-use lib.Seq.{get_or-take, length-take-le}
-use Rattle.cube_spec.specs.Limits.{length_limit, padded}
-use Rattle.cube_spec.specs.Boxes.{product, table_from, table}
+use lib.ListN.{length, get_or, take, replicate}
+use Rattle.std.specs.List.{All}
+use Rattle.cube_spec.specs.Limits.{axis_limit, length_limit, padded}
+use Rattle.cube_spec.specs.Boxes.{product, table}
 use Rattle.cube_spec.specs.Choices.{length_of, points}
 use Rattle.cube_spec.specs.Tree.{weight}
 use Rattle.cube_spec.proofs.Boxing.{product_cong}
-use Rattle.cube_spec.proofs.Slots.{padded_at, table_here}
+use Rattle.cube_spec.proofs.Slots.{padded_at, padded_take, table_here}
+use Rattle.cube_spec.proofs.Tables.{table_length, table_at, table_cong}
 use Rattle.plan_spec.specs.Plans.{Sound, find}
-use Rattle.plan_spec.specs.Rule.{order, ordered_length, entries, greedy, exps, ordered_exponents, plan_of}
+use Rattle.plan_spec.specs.Rule.{Entry, order, ordered_length, entries, greedy, exps, ordered_exponents, plan_of}
 use Rattle.plan_spec.specs.Accepted.{PlanningAccepted}
-use Rattle.plan_spec.specs.Choosing.{Bounded, Raisable, entry, entry_at, candidates}
+use Rattle.plan_spec.specs.Choosing.{Bounded, Raisable}
+use Rattle.plan_spec.proofs.Places.{order_length}
 use Rattle.plan_spec.proofs.Orders.{order_below, rank_below, product_order}
 use Rattle.plan_spec.proofs.Demand.{plan_sound}
 use Rattle.plan_spec.proofs.Bounding.{weight_small}
-
-pub table_cong : {A : Type 0} (m d : ℕ) (f g : ℕ → A) → ((i : ℕ) → d ≤ i → i < d + m → f i ≡ g i) → table_from m d f ≡ table_from m d g
-unfolding table_from
-table_cong zero d f g h = refl
-table_cong (suc m) d f g h = ap₂ ◌∷◌ (h d (omega arith) (omega arith)) (table_cong m (d + 1) f g (λ i l r. h i (omega arith) (omega arith)))
 
 -- the lengths below n alone matter
 pub weight_cong : (n : ℕ) (f g : ℕ → ℕ) (i : ℕ) → i < n → ((j : ℕ) → j < n → f j ≡ g j) → weight n f i ≡ weight n g i
@@ -53,68 +51,95 @@ module _ (ds : List ℕ) (p : ℕ) (ok : PlanningAccepted ds p) where
   unfolding ordered_length
   ordered_short i h = ok.lengths.short (get_or (order ds) i 0) (below i h)
 
-module _ (lengths : List ℕ) (n p : ℕ) (eight : length lengths ≡ 8) (fits : n ≤ 8) (ok : PlanningAccepted (take n lengths) p) where
-  abbrev ds : List ℕ
-  ds = take n lengths
+module _ (ds : List ℕ) (p : ℕ) (ok : PlanningAccepted ds p) where
+  few : length ds ≤ axis_limit
+  few = ok.lengths.few
 
-  long : length ds ≡ n
-  long = length-take-le n lengths (omega arith)
+  taken : take (length ds) (padded (order ds)) ≡ order ds
+  taken = padded_take (order ds) (length ds) (order_length ds) few
 
-  -- the order, in slots
-  pub order_lt : (i : ℕ) → i < n → get_or (padded (order ds)) i 0 < n
-  order_lt i h = let q = long in let b = below ds p ok i (omega arith) in rw (padded_at (order ds) i (omega arith)) (omega arith)
+  -- the order, out of its slots
+  pub order_named : (length (take (length ds) (padded (order ds))) ≤ axis_limit)
+      × ((i : ℕ) → i < length (take (length ds) (padded (order ds))) → get_or (take (length ds) (padded (order ds))) i 0 < axis_limit)
+  order_named =
+      let o = order_length ds in
+      let f = few in
+      rw taken (omega arith, λ i h. let b = below ds p ok i (omega arith) in omega arith)
 
   -- the lengths along it
-  abbrev pub lens : List ℕ
-  lens = padded (table n (λ i. get_or lengths (get_or (padded (order ds)) i 0) 0))
+  abbrev pub Lengths : List ℕ → Type 0
+  Lengths r = r ≡ padded (table (length (take (length ds) (padded (order ds)))) (λ i. get_or (padded ds) (get_or (take (length ds) (padded (order ds))) i 0) 0))
 
-  lens_at : (i : ℕ) → i < n → get_or lens i 0 ≡ ordered_length ds i
-  unfolding ordered_length
-  lens_at i h =
-      let q = long in
-      let b = below ds p ok i (omega arith) in
-      padded_at (table n (λ i. get_or lengths (get_or (padded (order ds)) i 0) 0)) i (omega arith) ∙ table_here n (λ i. get_or lengths (get_or (padded (order ds)) i 0) 0) i h ∙ ap (λ a. get_or lengths a 0) (padded_at (order ds) i (omega arith)) ∙ sym (get_or-take n lengths (get_or (order ds) i 0) 0 (omega arith))
+  -- as code has them
+  pub lengths_along : (r o s : List ℕ) → o ≡ padded (order ds) → s ≡ padded ds
+      → r ≡ take axis_limit (table (length (take (length ds) o)) (λ i. get_or s (get_or (take (length ds) o) i 0) 0) ++ replicate axis_limit 0) → Lengths r
+  unfolding padded
+  lengths_along r o s e f g =
+      g
+      ∙ ap₂ (λ (o s : List ℕ). take axis_limit (table (length (take (length ds) o)) (λ i. get_or s (get_or (take (length ds) o) i 0) 0) ++ replicate axis_limit 0)) e f
 
-  pub lens_bounded : Bounded (λ d. get_or lens d 0) n
-  lens_bounded =
-      let q = long in
-      record {
-        few = fits;
-        some = λ d h. let e = lens_at d h in let s = ordered_some ds p ok d (omega arith) in omega arith;
-        short = λ d h. let e = lens_at d h in let s = ordered_short ds p ok d (omega arith) in omega arith;
-        small = let e = product_cong {e = λ d. get_or lens d 0} {e' = ordered_length ds} n 0 (λ i l r. lens_at i (omega arith)) in let s = ok.lengths.small in let m = ordered_points ds p ok in let z : product (ordered_length ds) n 0 ≡ product (ordered_length ds) (length ds) 0 = ap (λ k. product (ordered_length ds) k 0) (sym q) in omega arith;
-      }
+  module _ (r : List ℕ) (along : Lengths r) where
+    abbrev pub lens : List ℕ
+    lens = take (length ds) r
 
-  -- the weights
-  abbrev pub ws : List ℕ
-  ws = padded (table n (weight n (λ d. get_or lens d 0)))
+    lens_table : lens ≡ table (length ds) (ordered_length ds)
+    unfolding ordered_length
+    lens_table =
+        let o = order_length ds in
+        let f = few in
+        ap (take (length ds)) along
+        ∙ ap (λ o. take (length ds) (padded (table (length o) (λ i. get_or (padded ds) (get_or o i 0) 0)))) taken
+        ∙ ap (λ n. take (length ds) (padded (table n (λ i. get_or (padded ds) (get_or (order ds) i 0) 0)))) o
+        ∙ padded_take (table (length ds) (λ i. get_or (padded ds) (get_or (order ds) i 0) 0)) (length ds) (table_length (length ds) 0 _) few
+        ∙ table_cong (length ds) 0 _ _ (λ i _ h. padded_at ds (get_or (order ds) i 0) (let b = below ds p ok i (omega arith) in omega arith))
 
-  ws_at : (i : ℕ) → i < n → get_or ws i 0 ≡ weight n (λ d. get_or lens d 0) i
-  ws_at i h = padded_at (table n (weight n (λ d. get_or lens d 0))) i (omega arith) ∙ table_here n (weight n (λ d. get_or lens d 0)) i h
+    pub lens_length : length lens ≡ length ds
+    lens_length = ap length lens_table ∙ table_length (length ds) 0 (ordered_length ds)
 
-  pub ws_raisable : Raisable ws (replicate 8 0) n
-  ws_raisable =
-      record {
-        few = fits;
-        light = λ i h. let e = ws_at i h in let s = weight_small (λ d. get_or lens d 0) n lens_bounded i h in omega arith;
-        low = λ i h. let e = get_or-replicate {A = ℕ} 8 i 0 0 (omega arith) in omega arith;
-      }
+    lens_at : (i : ℕ) → i < length ds → get_or lens i 0 ≡ ordered_length ds i
+    lens_at i h = ap (λ l. get_or l i 0) lens_table ∙ table_here (length ds) (ordered_length ds) i h
 
-  -- so they are the rule's own entries
-  same_entries : candidates ws lens (replicate 8 0) n ≡ entries ds
-  unfolding entries
-  same_entries =
-      let q = long in
-      ap (λ k. table_from k 0 (entry_at ws lens (replicate 8 0))) (sym q) ∙ table_cong (length ds) 0 _ _ (λ i l r. one i (omega arith))
-    where
-      one : (i : ℕ) → i < n → entry_at ws lens (replicate 8 0) i ≡ entry (weight (length ds) (ordered_length ds) i) (ordered_length ds i) 0
-      one i h =
-          let q = long in
-          let w : get_or ws i 0 ≡ weight (length ds) (ordered_length ds) i = ws_at i h ∙ weight_cong n (λ d. get_or lens d 0) (ordered_length ds) i h (λ j r. lens_at j r) ∙ ap (λ k. weight k (ordered_length ds) i) (sym q) in
-          let l = lens_at i h in
-          let k : get_or {A = ℕ} (replicate 8 0) i 0 ≡ 0 = get_or-replicate 8 i 0 0 (omega arith) in
-          (λ j. entry (w j) (l j) (k j))
+    pub lens_bounded : Bounded (length_of lens) (length lens)
+    lens_bounded =
+        let n = lens_length in
+        let f = few in
+        record {
+          few = omega arith;
+          some = λ d h. let e = lens_at d (omega arith) in let s = ordered_some ds p ok d (omega arith) in omega arith;
+          short = λ d h. let e = lens_at d (omega arith) in let s = ordered_short ds p ok d (omega arith) in omega arith;
+          small =
+              let e = product_cong {e = length_of lens} {e' = ordered_length ds} (length ds) 0 (λ i l r. lens_at i (omega arith)) in
+              let s = ok.lengths.small in
+              let m = ordered_points ds p ok in
+              rw n (omega arith);
+        }
 
-  pub arranged : padded (exps (greedy p (candidates ws lens (replicate 8 0) n))) ≡ padded (ordered_exponents ds p)
-  unfolding ordered_exponents
-  arranged = ap (λ l. padded (exps (greedy p l))) same_entries
+    -- so they make the rule's own entries
+    module _ (l : List Entry) (made : l ≡ table (length lens) (λ i. record { weight = weight (length lens) (length_of lens) i; len = length_of lens i; exp = 0 })) where
+      pub entries_length : length l ≡ length ds
+      entries_length = ap length made ∙ table_length (length lens) 0 _ ∙ lens_length
+
+      same_entries : l ≡ entries ds
+      unfolding entries
+      same_entries =
+          made
+          ∙ ap (λ n. table n (λ i. record { weight = weight n (length_of lens) i; len = length_of lens i; exp = 0 })) lens_length
+          ∙ table_cong (length ds) 0 _ _ (λ i _ h. one i (omega arith))
+        where
+          one : (i : ℕ) → i < length ds → ◌≡◌ {A = Entry} (record { weight = weight (length ds) (length_of lens) i; len = length_of lens i; exp = 0 }) (record { weight = weight (length ds) (ordered_length ds) i; len = ordered_length ds i; exp = 0 })
+          one i h =
+              let w : weight (length ds) (length_of lens) i ≡ weight (length ds) (ordered_length ds) i = weight_cong (length ds) (length_of lens) (ordered_length ds) i h (λ j r. lens_at j r) in
+              let e = lens_at i h in
+              (λ j. record { weight = w j; len = e j; exp = 0 })
+
+      pub arranged : padded (exps (greedy p l)) ≡ padded (ordered_exponents ds p)
+      unfolding ordered_exponents
+      arranged = ap (λ l. padded (exps (greedy p l))) same_entries
+
+-- the entries of lengths along the order can be priced
+pub entries_raisable : (l : List ℕ) → Bounded (length_of l) (length l) → All (Raisable 0) (table (length l) (λ i. record { weight = weight (length l) (length_of l) i; len = length_of l i; exp = 0 }))
+entries_raisable l ok i z h =
+    let E : ℕ → Entry = λ i. record { weight = weight (length l) (length_of l) i; len = length_of l i; exp = 0 } in
+    let r : i < length l = (let t = table_length (length l) 0 E in omega arith) in
+    let e : get_or (table (length l) E) i z ≡ E i = table_at (length l) 0 E i z r ∙ ap E (zero-add i) in
+    rw e (weight_small (length_of l) (length l) ok i r, omega arith)

@@ -55,15 +55,8 @@ unfolding all
 all_same f g zero h = refl
 all_same f g (suc n) h = rw (all_same f g n (λ d r. h d (omega arith)), h n (omega arith))
 
-pub all_next : (f : ℕ → Bool) (d : ℕ) → all d f ≡ true → f d ≡ true → all (d + 1) f ≡ true
-unfolding all
-all_next f d e t = rw (add-one, e) t
-
 pub all_fails : (f : ℕ → Bool) (n d : ℕ) → d < n → f d ≡ false → all n f ≡ false
 all_fails f n d h t = by (all n f) (λ s. clash (sym (all_true f n s d h) ∙ t)) (λ s. s)
-
-pub all_end : (f : ℕ → Bool) (n d : ℕ) → d ≤ n → n ≤ d → all d f ≡ true → all n f ≡ true
-all_end f n d h k e = let q : n ≡ d = omega arith in rw q e
 
 pub or_true : (a : Bool) → (a || true) ≡ true
 or_true true = refl
@@ -94,13 +87,6 @@ module _ (l : List ℕ) (n : ℕ) (eight : length l ≡ 8) (few : n ≤ 8) where
   left_next i h =
       let q = first_length in
       rw (add-one, ← get_or-take n l i 0 h) (drop-cons (take n l) i 0 (omega arith))
-
-  pub left_none : (i : ℕ) → n ≤ i → drop i (take n l) ≡ []
-  left_none i h = let q = first_length in drop_of_length-le (take n l) {i = i} (omega arith)
-
-  pub sum_next : (i : ℕ) → i < n → sum_list (drop i (take n l)) ≡ get_or l i 0 + sum_list (drop (i + 1) (take n l))
-  unfolding sum_list
-  sum_next i h = rw (left_next i h)
 
 -- ---- lengths
 

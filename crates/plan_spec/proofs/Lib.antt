@@ -24,7 +24,6 @@ pub mod Inserting
 pub mod Sorting
 pub mod Raising
 pub mod Bounding
-pub mod Finding
 pub mod Arranging
 pub mod Deciding
 pub mod PricingLaws

@@ -1,26 +1,39 @@
 -- Which axis a raise takes, place by place from the last, and what the raise leaves.
 use Prim.Native.Nat.{ℕ, zero, suc, ◌+◌, ◌-◌, ◌*◌, ◌%◌, ◌^◌, ◌≤◌, ◌<◌}
-use mathlib.Core.Path.{◌≡◌, sym, ◌∙◌, refl, ap, ap₂}
+use mathlib.Core.Path.{◌≡◌, sym, ◌∙◌, refl, ap}
 use mathlib.Core.Bool.{true, false, ◌&&◌}
 use mathlib.Core.Option.{Option, none, some}
 use mathlib.Core.List.{List, [], ◌∷◌}
-use native.Mathlib.Nat.{zero-add, le_of_eq, one-mul, mod-eq_of_lt, mul-le-mul}
+use native.Mathlib.Nat.{one-mul, mod-eq_of_lt, mul-le-mul}
 use lib.Pow.{pow_mono}
 use native.Mathlib.Numerals.{add-one}
-use native.Mathlib.Decide.{dec_lt}
 use native.Mathlib.Omega.{arith}
-use borrow.Author.Tests.{eqb-true, eqb-false, eq-eqb, ne_eqb, leb-true, leb-false}
+use borrow.Author.Tests.{eq-eqb, ne_eqb, leb-true, leb-false}
 use lib.Dec.{leb, eqb}
-use lib.ListN.{length, get_or, set, replicate, length-set, get_or-replicate, get_or-eq_default}
-use lib.Seq.{get_or-set_same, get_or-set_other}
-use Rattle.cube_spec.specs.Boxes.{table_from, table}
+use lib.ListN.{length, get_or, set, drop, drop_of_length-le}
+use lib.Seq.{drop-cons}
+use Rattle.std.specs.Prelude as std
+use Rattle.std.specs.Prelude.{Some, None, unwrap_or, IfSome}
+use Rattle.std.specs.List.{All}
+use Rattle.std.proofs.lemmas.List.Elements.{All-set}
+use Rattle.cube_spec.specs.Boxes.{pick, table}
+use Rattle.cube_spec.proofs.Tables.{table_of}
 use Rattle.cube_spec.proofs.Sums.{by}
 use Rattle.cube_spec.proofs.Naturals.{both}
-use Rattle.cube_spec.specs.Limits.{padded}
-use Rattle.cube_spec.proofs.Tables.{table_length}
-use Rattle.cube_spec.proofs.Slots.{padded_of, table_here, table_or_zero}
-use Rattle.plan_spec.specs.Rule.{Entry, price, free, up_to, least, raised, raise_at, raise_by, raise, greedy, exps}
-use Rattle.plan_spec.specs.Choosing.{entry, entry_at, candidates, first_at, chosen_by, chosen}
+use Rattle.plan_spec.specs.Rule.{Entry, price, free, up_to, least, raise_at, raise_by, raise, greedy, exps}
+use Rattle.plan_spec.specs.Choosing.{Raisable, raised_at, raised_by}
+
+-- the place of the entry that a raise takes, and the number of entries where none may be raised
+unfoldable pub first_at : ℕ → List Entry → ℕ
+first_at t [] = 0
+first_at t (e ∷ r) = pick (free e && eqb (price e) t) 0 (suc (first_at t r))
+
+unfoldable pub chosen_by : Option ℕ → List Entry → ℕ
+chosen_by none l = length l
+chosen_by (some t) l = first_at t l
+
+unfoldable pub chosen : List Entry → ℕ
+chosen l = chosen_by (least l) l
 
 -- the least cost, or the largest number of 64 bits where no axis may be raised
 abbrev pub least_or : Option ℕ → ℕ
@@ -81,12 +94,6 @@ chosen_none = (refl, refl)
 
 -- ---- what a raise leaves
 
--- the entry at place i raised
-raised_at : ℕ → List Entry → List Entry
-raised_at i [] = []
-raised_at zero (e ∷ r) = raised e ∷ r
-raised_at (suc i) (e ∷ r) = e ∷ raised_at i r
-
 raise_first : (t : ℕ) (l : List Entry) → raise_at t l ≡ raised_at (first_at t l) l
 unfolding raise_at first_at raised_at
 raise_first t [] = refl
@@ -106,130 +113,99 @@ raise_chosen l = go (least l)
     go none = unfold raise_by chosen_by in sym (past (length l) l (omega arith))
     go (some t) = unfold raise_by chosen_by in raise_first t l
 
-module _ (ws ls : List ℕ) where
-  -- where none may be raised, nothing changes
-  pub raise_none : (ks : List ℕ) (n : ℕ) → n ≤ chosen (candidates ws ls ks n) → raise (candidates ws ls ks n) ≡ candidates ws ls ks n
-  raise_none ks n h = raise_chosen (candidates ws ls ks n) ∙ past (chosen (candidates ws ls ks n)) (candidates ws ls ks n) (let q = table_length n 0 (entry_at ws ls ks) in omega arith)
+-- the place as code has it: a number, or none
+pub raise_taken : (l : List Entry) (best : std.Option ℕ) → unwrap_or best (length l) ≡ chosen l → raised_by best l ≡ raise l
+raise_taken l None e = sym (raise_chosen l ∙ ap (λ i. raised_at i l) (sym e) ∙ past (length l) l (omega arith))
+raise_taken l (Some i) e = sym (raise_chosen l ∙ ap (λ i. raised_at i l) (sym e))
 
-  -- exponents that are the same from d on make the same entries
-  same_from : (ks ks' : List ℕ) (m d : ℕ) → ((i : ℕ) → d ≤ i → get_or ks i 0 ≡ get_or ks' i 0) → table_from m d (entry_at ws ls ks) ≡ table_from m d (entry_at ws ls ks')
-  unfolding table_from
-  same_from ks ks' zero d h = refl
-  same_from ks ks' (suc m) d h = ap₂ (λ (k : ℕ) (x : List Entry). record { weight = get_or ws d 0; len = get_or ls d 0; exp = k } ∷ x) (h d (omega arith)) (same_from ks ks' m (d + 1) (λ i l. h i (omega arith)))
+-- as code writes it
+abbrev pub one_more : Entry → Entry
+one_more e = record { weight = e.weight; len = e.len; exp = e.exp + 1 }
 
-  raised_from : (ks : List ℕ) (m d i : ℕ) → i < m → d + i < length ks → raised_at i (table_from m d (entry_at ws ls ks)) ≡ table_from m d (entry_at ws ls (set ks (d + i) (get_or ks (d + i) 0 + 1)))
-  unfolding raised_at table_from
-  raised_from ks zero d i h k = absurd (omega arith)
-  raised_from ks (suc m) d zero h k =
-      let z : d + 0 ≡ d = omega arith in
-      let v = get_or-set_same ks d (get_or ks d 0 + 1) 0 (omega arith) in
-      rw z (ap₂ (λ (k : ℕ) (x : List Entry). record { weight = get_or ws d 0; len = get_or ls d 0; exp = k } ∷ x) (sym (v ∙ add-one (get_or ks d 0))) (same_from ks (set ks d (get_or ks d 0 + 1)) m (d + 1) (λ i l. sym (get_or-set_other ks d i (get_or ks d 0 + 1) 0 (λ q. omega arith)))))
-  raised_from ks (suc m) d (suc i) h k =
-      let z : d + suc i ≡ d + 1 + i = omega arith in
-      let v = get_or-set_other ks (d + 1 + i) d (get_or ks (d + 1 + i) 0 + 1) 0 (λ q. omega arith) in
-      rw z (ap₂ (λ (k : ℕ) (x : List Entry). record { weight = get_or ws d 0; len = get_or ls d 0; exp = k } ∷ x) (sym v) (raised_from ks m (d + 1) i (omega arith) (omega arith)))
+raised_set : (i : ℕ) (l : List Entry) (z : Entry) → i < length l → set l i (one_more (get_or l i z)) ≡ raised_at i l
+unfolding raised_at
+raised_set i [] z h = absurd (omega arith)
+raised_set zero (e ∷ r) z h = ap (λ (k : ℕ). record { weight = e.weight; len = e.len; exp = k } ∷ r) (add-one e.exp)
+raised_set (suc i) (e ∷ r) z h = ap (λ (x : List Entry). e ∷ x) (raised_set i r z (omega arith))
 
-  -- else the exponent at that place is one higher
-  pub raise_some : (ks : List ℕ) (n : ℕ) → chosen (candidates ws ls ks n) < n → n ≤ length ks → (let i = chosen (candidates ws ls ks n) in raise (candidates ws ls ks n) ≡ candidates ws ls (set ks i (get_or ks i 0 + 1)) n)
-  raise_some ks n h l =
-      let i = chosen (candidates ws ls ks n) in
-      let z = zero-add i in
-      raise_chosen (candidates ws ls ks n) ∙ raised_from ks n 0 i h (omega arith) ∙ ap (λ j. candidates ws ls (set ks j (get_or ks j 0 + 1)) n) z
-
--- the exponents of the entries are those of the list
-pub exps_table : (ws ls ks : List ℕ) (m d : ℕ) → exps (table_from m d (entry_at ws ls ks)) ≡ table_from m d (λ i. get_or ks i 0)
-unfolding exps table_from
-exps_table ws ls ks zero d = refl
-exps_table ws ls ks (suc m) d = ap (λ (x : List ℕ). get_or ks d 0 ∷ x) (exps_table ws ls ks m (d + 1))
+pub raised_length : (i : ℕ) (l : List Entry) → length (raised_at i l) ≡ length l
+unfolding raised_at
+raised_length i [] = refl
+raised_length zero (e ∷ r) = refl
+raised_length (suc i) (e ∷ r) = ap suc (raised_length i r)
 
 -- ---- in the code's terms
 
-pub free_room : (w l k : ℕ) → k ≤ 10 → free (entry w l k) ≡ leb (1 * 2 ^ (k + 1) % 18446744073709551616) l
+pub room_free : (e : Entry) → e.exp ≤ 10 → free e ≡ leb (1 * 2 ^ (e.exp + 1) % 18446744073709551616) e.len
 unfolding free
-free_room w l k h =
-    let q : 2 ^ (k + 1) ≤ 2 ^ 11 = pow_mono {i = k + 1} {j = 11} (omega arith) in
-    let s : 1 * 2 ^ (k + 1) < 18446744073709551616 = omega arith in
+room_free e h =
+    let q : 2 ^ (e.exp + 1) ≤ 2 ^ 11 = pow_mono {i = e.exp + 1} {j = 11} (omega arith) in
+    let s : 1 * 2 ^ (e.exp + 1) < 18446744073709551616 = omega arith in
     rw (mod-eq_of_lt s, one-mul, add-one)
 
-pub price_of : (w l k : ℕ) → price (entry w l k) ≡ w * 2 ^ k
+pub price_small : (e : Entry) → Raisable 10 e → price e ≤ 18446744073709551615
 unfolding price
-price_of w l k = refl
+price_small e h = let q = mul-le-mul h.0 (pow_mono {i = e.exp} {j = 10} h.1) in omega arith
 
-pub price_small : (w l k : ℕ) → w ≤ 2 ^ 32 → k ≤ 10 → price (entry w l k) ≤ 18446744073709551615
-price_small w l k hw hk = let p = price_of w l k in let q = mul-le-mul hw (pow_mono {i = k} {j = 10} hk) in omega arith
+-- the entries from place i on, and one more before them
+module _ (l : List Entry) (z : Entry) (i : ℕ) (some : 0 < i) (fits : i ≤ length l) where
+  cut : drop (i - 1) l ≡ get_or l (i - 1) z ∷ drop i l
+  cut = let q : i ≡ suc (i - 1) = omega arith in drop-cons l (i - 1) z (omega arith) ∙ ap (λ j. get_or l (i - 1) z ∷ drop j l) (sym q)
 
-module _ (E : ℕ → Entry) (n i : ℕ) (some : 0 < i) (fits : i ≤ n) where
-  cut : table_from (n - (i - 1)) (i - 1) E ≡ E (i - 1) ∷ table_from (n - i) i E
-  unfolding table_from
-  cut =
-      let p : n - (i - 1) ≡ suc (n - i) = omega arith in
-      let q : i - 1 + 1 ≡ i = omega arith in
-      rw (p, q)
+  pub turn_takes : (free (get_or l (i - 1) z) && leb (price (get_or l (i - 1) z)) (least_or (least (drop i l)))) ≡ true
+      → (chosen (drop (i - 1) l) ≡ 0) × (price (get_or l (i - 1) z) ≡ least_or (least (drop (i - 1) l)))
+  turn_takes h = let q = takes (get_or l (i - 1) z) (drop i l) h in (rw (cut, q.0), rw cut (sym q.1))
 
-  pub turn_takes : (free (E (i - 1)) && leb (price (E (i - 1))) (least_or (least (table_from (n - i) i E)))) ≡ true
-      → (i - 1 ≡ i - 1 + chosen (table_from (n - (i - 1)) (i - 1) E)) × (price (E (i - 1)) ≡ least_or (least (table_from (n - (i - 1)) (i - 1) E)))
-  turn_takes h = let q = takes (E (i - 1)) (table_from (n - i) i E) h in (rw (cut, q.0) (omega arith), rw cut (sym q.1))
+  pub turn_passes : (free (get_or l (i - 1) z) && leb (price (get_or l (i - 1) z)) (least_or (least (drop i l)))) ≡ false → price (get_or l (i - 1) z) ≤ 18446744073709551615
+      → (chosen (drop (i - 1) l) ≡ suc (chosen (drop i l))) × (least_or (least (drop i l)) ≡ least_or (least (drop (i - 1) l)))
+  turn_passes h small = let q = passes (get_or l (i - 1) z) (drop i l) h small in (rw (cut, q.0), rw cut (sym q.1))
 
-  pub turn_passes : (best : ℕ) → (free (E (i - 1)) && leb (price (E (i - 1))) (least_or (least (table_from (n - i) i E)))) ≡ false → price (E (i - 1)) ≤ 18446744073709551615 → best ≡ i + chosen (table_from (n - i) i E)
-      → (best ≡ i - 1 + chosen (table_from (n - (i - 1)) (i - 1) E)) × (least_or (least (table_from (n - i) i E)) ≡ least_or (least (table_from (n - (i - 1)) (i - 1) E)))
-  turn_passes best h small e = let q = passes (E (i - 1)) (table_from (n - i) i E) h small in (rw (cut, q.0) (omega arith), rw cut (sym q.1))
-
-pub turn_none : (E : ℕ → Entry) (n : ℕ) → (n ≡ n + chosen (table_from (n - n) n E)) × (18446744073709551615 ≡ least_or (least (table_from (n - n) n E)))
-turn_none E n =
-    let z : n - n ≡ 0 = omega arith in
-    let t : table_from (n - n) n E ≡ [] = rw z (unfold table_from in refl) in
+pub turn_none : (l : List Entry) (i : ℕ) → length l ≤ i → (chosen (drop i l) ≡ 0) × (18446744073709551615 ≡ least_or (least (drop i l)))
+turn_none l i h =
+    let t : drop i l ≡ [] = drop_of_length-le l {i = i} h in
     let c = chosen_none in
-    (rw (t, c.0) (omega arith), rw t (sym c.1))
+    (rw (t, c.0), rw t (sym c.1))
 
 -- ---- p raises
 
--- the exponents after t raises: those of the entries, none over t, and nothing past the last axis
-pub record Raised (ws ls : List ℕ) (n t : ℕ) (ks : List ℕ) : Type 0 where
-  pub slots : length ks ≡ 8
-  pub entries : candidates ws ls ks n ≡ greedy t (candidates ws ls (replicate 8 0) n)
-  pub low : (j : ℕ) → get_or ks j 0 ≤ t
-  pub clear : (j : ℕ) → n ≤ j → get_or ks j 0 ≡ 0
+-- the entries after t raises, none of them over t
+pub record Raised (first : List Entry) (t : ℕ) (l : List Entry) : Type 0 where
+  pub entries : l ≡ greedy t first
+  pub low : All (Raisable t) l
 
-pub raised_none : (ws ls : List ℕ) (n : ℕ) → Raised ws ls n 0 (replicate 8 0)
-raised_none ws ls n = record { slots = refl; entries = (unfold greedy in refl); low = λ j. le_of_eq (zeros j); clear = λ j h. zeros j }
-  where
-    zeros : (j : ℕ) → get_or {A = ℕ} (replicate 8 0) j 0 ≡ 0
-    zeros j = go (dec_lt j 8)
-      where
-        go : Dec (j < 8) → get_or {A = ℕ} (replicate 8 0) j 0 ≡ 0
-        go (yes h) = get_or-replicate 8 j 0 0 h
-        go (no h) = get_or-eq_default {A = ℕ} (replicate 8 0) 0 {n = j} (omega (arith, h))
+pub raised_none : (l : List Entry) → All (Raisable 0) l → Raised l 0 l
+unfolding greedy
+raised_none l h = record { entries = refl; low = h }
 
-module _ (ws ls ks : List ℕ) (n t : ℕ) (ok : Raised ws ls n t ks) (fits : n ≤ 8) where
-  next : (ks' : List ℕ) → candidates ws ls ks' n ≡ raise (candidates ws ls ks n) → candidates ws ls ks' n ≡ greedy (t + 1) (candidates ws ls (replicate 8 0) n)
-  next ks' e = e ∙ ap raise ok.entries ∙ (let z : t + 1 ≡ suc t = omega arith in rw z (unfold greedy in refl))
+module _ {first l : List Entry} {t : ℕ} (ok : Raised first t l) where
+  next : (l' : List Entry) → l' ≡ raise l → l' ≡ greedy (t + 1) first
+  next l' e = e ∙ ap raise ok.entries ∙ (let z : t + 1 ≡ suc t = omega arith in rw z (unfold greedy in refl))
+
+  higher : All (Raisable (t + 1)) l
+  higher i z h = let q = ok.low i z h in (q.0, omega arith)
 
   -- none may be raised
-  pub raised_same : n ≤ chosen (candidates ws ls ks n) → Raised ws ls n (t + 1) ks
-  raised_same h =
+  pub raised_same : l ≡ raise l → Raised first (t + 1) l
+  raised_same e = record { entries = next l e; low = higher }
+
+  pub raised_next : (i : ℕ) (z : Entry) → i < length l → raised_at i l ≡ raise l → Raised first (t + 1) (set l i (one_more (get_or l i z)))
+  raised_next i z h e =
       record {
-        slots = ok.slots;
-        entries = next ks (sym (raise_none ws ls ks n h));
-        low = λ j. let q = ok.low j in omega arith;
-        clear = ok.clear;
+        entries = next (set l i (one_more (get_or l i z))) (raised_set i l z h ∙ e);
+        low = let q = ok.low i z h in All-set (Raisable (t + 1)) l i (one_more (get_or l i z)) (q.0, omega arith) higher;
       }
 
-  pub raised_next : (i : ℕ) → i ≡ chosen (candidates ws ls ks n) → i < n → Raised ws ls n (t + 1) (set ks i (get_or ks i 0 + 1))
-  raised_next i e h =
-      record {
-        slots = length-set ks i (get_or ks i 0 + 1) ∙ ok.slots;
-        entries = next (set ks i (get_or ks i 0 + 1)) (sym (rw e (raise_some ws ls ks n (rw e at h) (let q = ok.slots in omega arith))));
-        low = λ j. by (eqb j i) (λ s. let z = eqb-true j i s in rw (z, get_or-set_same ks i (get_or ks i 0 + 1) 0 (let q = ok.slots in omega arith)) (let q = ok.low i in omega arith)) (λ s. rw (get_or-set_other ks i j (get_or ks i 0 + 1) 0 (eqb-false j i s)) (let q = ok.low j in omega arith));
-        clear = λ j l. get_or-set_other ks i j (get_or ks i 0 + 1) 0 (λ z. omega arith) ∙ ok.clear j l;
-      }
+-- the exponents of the entries, place by place
+exps_length : (l : List Entry) → length (exps l) ≡ length l
+unfolding exps
+exps_length [] = refl
+exps_length (e ∷ r) = ap suc (exps_length r)
 
-  -- in slots, the exponents of the entries
-  pub raised_slots : ks ≡ padded (exps (greedy t (candidates ws ls (replicate 8 0) n)))
-  raised_slots = rw (← ok.entries, exps_table ws ls ks n 0) (padded_of (table n (λ i. get_or ks i 0)) ks ok.slots one)
-    where
-      one : (j : ℕ) → j < 8 → get_or ks j 0 ≡ get_or (table n (λ i. get_or ks i 0)) j 0
-      one j h = go (dec_lt j n)
-        where
-          go : Dec (j < n) → get_or ks j 0 ≡ get_or (table n (λ i. get_or ks i 0)) j 0
-          go (yes l) = sym (table_here n (λ i. get_or ks i 0) j l)
-          go (no l) = ok.clear j (omega (arith, l)) ∙ sym (table_or_zero n (λ i. get_or ks i 0) j (omega (arith, l)))
+exps_at : (l : List Entry) (z : Entry) (j : ℕ) → j < length l → get_or (exps l) j 0 ≡ (get_or l j z).exp
+unfolding exps
+exps_at [] z j h = absurd (omega arith)
+exps_at (e ∷ r) z zero h = refl
+exps_at (e ∷ r) z (suc j) h = exps_at r z j (omega arith)
+
+pub exps_table : (l : List Entry) (z : Entry) → exps l ≡ table (length l) (λ i. (get_or l i z).exp)
+exps_table l z = table_of (length l) (λ i. (get_or l i z).exp) (exps l) 0 (exps_length l) (exps_at l z)

@@ -1,5 +1,5 @@
 -- What a turn of a loop over at most eight slots asks, in plain variables: an answer in a function's proof only applies one of these.
-use Prim.Native.Nat.{ℕ, ◌+◌, ◌-◌, ◌≤◌, ◌<◌}
+use Prim.Native.Nat.{ℕ, ◌+◌, ◌≤◌, ◌<◌}
 use mathlib.Core.Path.{◌≡◌, ◌∙◌, ap}
 use mathlib.Core.List.{List}
 use native.Mathlib.Nat.{le_antisymm}
@@ -27,14 +27,6 @@ slot_below h k = omega arith
 
 pub next_le : {i n : ℕ} → i < n → i + 1 ≤ n
 next_le h = omega arith
-
--- ---- from the last slot to the first
-
-pub last_lt : {i n : ℕ} → 0 < i → i ≤ n → i - 1 < n
-last_lt h k = omega arith
-
-pub last_le : {i n : ℕ} → i ≤ n → i - 1 ≤ n
-last_le h = omega arith
 
 -- ---- slots that are filled one by one
 

@@ -38,3 +38,11 @@ pub struct Arrangement {
     pub order: [u8; 8],
     pub exponents: [u8; 8],
 }
+
+// An axis in plan order with its weight, for the rule that raises exponents.
+#[derive(Clone, Copy)]
+pub struct Entry {
+    pub weight: u64,
+    pub len: u32,
+    pub exp: u8,
+}

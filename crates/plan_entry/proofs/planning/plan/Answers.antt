@@ -1,40 +1,46 @@
 -- `plan_entry::planning::plan` meets its contract.
-use Rattle.plan_spec.proofs.Answering.{refused_as, too_many_lem, judged_so, passed, fine_slots, used_asked, placed, made_accepted, made_planned}
+use mathlib.Core.Path.{sym}
+use native.Mathlib.Omega.{arith}
+use Rattle.std.proofs.lemmas.Result.{err_from_is_err_and}
+use Rattle.cube_spec.proofs.Answered.{error}
+use Rattle.plan_spec.specs.Answers.{planning}
+use Rattle.plan_spec.proofs.Accepting.{planning_passed}
+use Rattle.plan_spec.proofs.Answering.{passed, few_lengths, fine_lengths, used_asked, placed, made_accepted, made_planned}
 use Rattle.plan_entry.proofs.planning.plan.Goals as goal
 
-pub returns-then-n-gt8 : goal.returns-then-n-gt8
-returns-then-n-gt8 c =
-    let l = c.args.lengths.now in
-    refused_as l c.args.p c.refused.result 3 c.refused.ensures (too_many_lem l c.args.p c.if-n-gt8.true)
+pub returns-in_err-check_planning : goal.returns-in_err-check_planning
+unfolding planning
+returns-in_err-check_planning c =
+    let p = err_from_is_err_and c.from_residual.result c.from_residual.ensures.1 in
+    rw (p.1, p.2) (error c.in_err-check_planning.field-0.0 _ _ c.in_err-check_planning.ensures)
 
-pub returns-then-bad-ne0 : goal.returns-then-bad-ne0
-returns-then-bad-ne0 c =
-    let l = c.args.lengths.now in
-    let judged = judged_so l c.slots-ds.result c.slots-ds.ensures c.if-n-gt8.false c.args.p c.planning_refusal-bad.result c.planning_refusal-bad.ensures in
-    refused_as l c.args.p c.refused-then-bad-ne0.result c.planning_refusal-bad.result c.refused-then-bad-ne0.ensures judged
+pub power_used-used-requires : goal.power_used-used-requires
+power_used-used-requires c = (planning_passed c.args.lengths.now c.args.p (sym c.in_ok-check_planning.ensures)).0.few
 
 pub arrange-arrangement-requires : goal.arrange-arrangement-requires
-arrange-arrangement-requires c =
-    let few = c.if-n-gt8.false in
-    (few, fine_slots (passed _ _ _ _ _ c.slots-ds.ensures few c.planning_refusal-bad.ensures c.if-bad-ne0.false c.power_used-used.ensures))
+arrange-arrangement-requires c = fine_lengths (passed (sym c.in_ok-check_planning.ensures) c.power_used-used.ensures)
 
-pub by_axis-exponents-requires : goal.by_axis-exponents-requires
-by_axis-exponents-requires c =
-    let few = c.if-n-gt8.false in
-    let k = passed _ _ _ _ _ c.slots-ds.ensures few c.planning_refusal-bad.ensures c.if-bad-ne0.false c.power_used-used.ensures in
-    (few, placed k c.arrange-arrangement.result c.arrange-arrangement.ensures)
+pub overflow_cast-plan : goal.overflow_cast-plan
+overflow_cast-plan c = let f = few_lengths (passed (sym c.in_ok-check_planning.ensures) c.power_used-used.ensures) in omega arith
 
-pub prices-cost-requires : goal.prices-cost-requires
-prices-cost-requires c =
-    let k = passed _ _ _ _ _ c.slots-ds.ensures c.if-n-gt8.false c.planning_refusal-bad.ensures c.if-bad-ne0.false c.power_used-used.ensures in
-    made_accepted k c.arrange-arrangement.result c.arrange-arrangement.ensures c.by_axis-exponents.result c.by_axis-exponents.ensures
+pub slots-requires : goal.slots-requires
+slots-requires c = few_lengths (passed (sym c.in_ok-check_planning.ensures) c.power_used-used.ensures)
 
-pub idle_of-idle-requires : goal.idle_of-idle-requires
-idle_of-idle-requires c =
-    used_asked (passed _ _ _ _ _ c.slots-ds.ensures c.if-n-gt8.false c.planning_refusal-bad.ensures c.if-bad-ne0.false c.power_used-used.ensures)
+pub shared_ref_as_front-by_axis : goal.shared_ref_as_front-by_axis
+shared_ref_as_front-by_axis c = few_lengths (passed (sym c.in_ok-check_planning.ensures) c.power_used-used.ensures)
+
+pub by_axis-requires-clause-found : goal.by_axis-requires-clause-found
+by_axis-requires-clause-found c = placed (passed (sym c.in_ok-check_planning.ensures) c.power_used-used.ensures) c.arrange-arrangement.result c.arrange-arrangement.ensures
+
+pub prices-requires : goal.prices-requires
+prices-requires c =
+    let k = passed (sym c.in_ok-check_planning.ensures) c.power_used-used.ensures in
+    made_accepted k c.arrange-arrangement.result c.arrange-arrangement.ensures c.slots.result c.by_axis.result c.slots.ensures c.by_axis.ensures
+
+pub idle_of-requires : goal.idle_of-requires
+idle_of-requires c = used_asked (passed (sym c.in_ok-check_planning.ensures) c.power_used-used.ensures)
 
 pub returns : goal.returns
 returns c =
-    let k = passed _ _ _ _ _ c.slots-ds.ensures c.if-n-gt8.false c.planning_refusal-bad.ensures c.if-bad-ne0.false c.power_used-used.ensures in
-    made_planned k c.arrange-arrangement.result c.arrange-arrangement.ensures c.by_axis-exponents.result c.by_axis-exponents.ensures c.prices-cost.result c.idle_of-idle.result
-    c.prices-cost.ensures c.idle_of-idle.ensures
+    let k = passed (sym c.in_ok-check_planning.ensures) c.power_used-used.ensures in
+    made_planned k c.arrange-arrangement.result c.arrange-arrangement.ensures c.slots.result c.by_axis.result c.slots.ensures c.by_axis.ensures c.prices.result c.idle_of.result c.prices.ensures c.idle_of.ensures

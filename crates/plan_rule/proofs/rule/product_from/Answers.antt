@@ -1,18 +1,21 @@
-use Rattle.plan_spec.proofs.Turns.{next_le, fits_points}
-use Prim.Native.Nat.{ℕ, ◌≤◌, ◌-◌, ◌+◌}
 use native.Mathlib.Omega.{arith}
-use lib.ListN.{get_or}
+use lib.ListN.{length}
+use Rattle.cube_spec.specs.Choices.{length_of}
+use Rattle.plan_spec.proofs.Turns.{fits_points}
 use Rattle.plan_spec.proofs.Bounding.{from_next, from_small, from_end}
 use Rattle.plan_rule.proofs.rule.product_from.Goals as goal
 
-later-le : {i j : ℕ} → i ≤ j → i ≤ j + 1
-later-le h = omega arith
-
-pub overflow_mul-r : goal.overflow_mul-r
-overflow_mul-r c = let v = c.loop-j.invariant in fits_points _ (from_small (λ d. get_or c.args.lens d 0) c.args.n c.requires.0 c.args.i c.loop-j.j c.loop-j.r v.0 c.loop-j-test.true v.3)
+pub overflow_mul-product : goal.overflow_mul-product
+overflow_mul-product c =
+    let l = c.args.lengths.now in
+    rw c.from-product.ensures (fits_points _ (from_small (length_of l) (length l) c.requires.0 c.args.i c.loop-j.j c.loop-j.product (omega arith) c.loop-j-test.true c.loop-j.invariant))
 
 pub loop-j-preserved : goal.loop-j-preserved
-loop-j-preserved c = let v = c.loop-j.invariant in (later-le v.0, next_le c.loop-j-test.true, v.2, from_next (λ d. get_or c.args.lens d 0) c.args.n c.requires.0 c.args.i c.loop-j.j c.loop-j.r v.0 c.loop-j-test.true v.3)
+loop-j-preserved c =
+    let l = c.args.lengths.now in
+    rw c.from-product.ensures (from_next (length_of l) (length l) c.requires.0 c.args.i c.loop-j.j c.loop-j.product (omega arith) c.loop-j-test.true c.loop-j.invariant)
 
 pub returns : goal.returns
-returns c = let v = c.loop-j.invariant in from_end (λ d. get_or c.args.lens d 0) c.args.n c.requires.0 c.args.i c.loop-j.j c.loop-j.r c.loop-j-test.false v.3
+returns c =
+    let l = c.args.lengths.now in
+    from_end (length_of l) (length l) c.requires.0 c.args.i c.loop-j.j c.loop-j.product c.loop-j-test.false c.loop-j.invariant
