@@ -18,7 +18,8 @@ use Rattle.cube_spec.proofs.Tables.{table_length}
 use Rattle.plan_spec.specs.Plans.{exponent_at, most_at, share_size, board_count}
 use Rattle.plan_spec.specs.Rule.{Entry, entries, greedy, exps, order, ordered_length, ordered_exponents, plan_of}
 use Rattle.plan_spec.specs.Refusals.{all}
-use Rattle.plan_spec.proofs.Arranging.{table_cong, weight_cong}
+use Rattle.cube_spec.proofs.Tables.{table_cong}
+use Rattle.plan_spec.proofs.Arranging.{weight_cong}
 use Rattle.plan_spec.proofs.Chosen.{exponents_table}
 use Rattle.plan_spec.proofs.Judging.{all_true}
 use Rattle.plan_spec.proofs.Places.{ordered_table}
