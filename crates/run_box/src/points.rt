@@ -18,9 +18,10 @@ fn kept_length(plan: Plan, choice: Choice, a: usize) -> u64
     ensures { result ≡ kept_along (plan_grid plan) (summed_in plan choice.mask) a }
 {
     if choice.keeps(a as u8) {
-        return plan.lengths[a] as u64;
+        plan.lengths[a] as u64
+    } else {
+        1
     }
-    1
 }
 
 // How far apart neighbours on the axis at place d stand: the choice's cells along the axes after it.
@@ -29,11 +30,9 @@ fn stride_of(plan: Plan, choice: Choice, d: usize) -> u64
     ensures { (result ≡ cell_stride (plan_grid plan) (summed_in plan choice.mask) d) × (result ≤ point_limit) }
 {
     let mut count: u64 = 1;
-    let mut a = plan.order[d] as usize + 1;
-    while a < plan.axes as usize {
-        let n = kept_length(plan, choice, a);
-        count = count * n;
-        a += 1;
+    let after = plan.order[d] as usize + 1;
+    for a in after..plan.axes as usize {
+        count *= kept_length(plan, choice, a);
     }
     count
 }
@@ -44,11 +43,8 @@ pub fn strides_of(plan: Plan, choice: Choice) -> [usize; 8]
     ensures { result ≡ padded (table plan.axes (cell_stride (plan_grid plan) (summed_in plan choice.mask))) }
 {
     let mut strides = [0usize; 8];
-    let mut d: usize = 0;
-    while d < plan.axes as usize {
-        let stride = stride_of(plan, choice, d);
-        strides[d] = stride as usize;
-        d += 1;
+    for d in 0..plan.axes as usize {
+        strides[d] = stride_of(plan, choice, d) as usize;
     }
     strides
 }
@@ -59,14 +55,12 @@ pub fn extents_of(plan: Plan, choice: Choice, labels: [u64; 8]) -> [usize; 8]
     ensures { result ≡ padded (table plan.axes (box (plan_grid plan) (summed_in plan choice.mask) (board_with (plan_grid plan) (λ i. get_or labels i 0)))) }
 {
     let mut extents = [0usize; 8];
-    let mut d: usize = 0;
-    while d < plan.axes as usize {
+    for d in 0..plan.axes as usize {
         let axis = plan.order[d];
         let kept = choice.keeps(axis);
         let i = axis as usize;
         let extent = kept_portion(kept, plan.lengths[i], plan.exponents[i], labels[d]);
         extents[d] = extent as usize;
-        d += 1;
     }
     extents
 }
@@ -77,12 +71,10 @@ pub fn first_cell(plan: Plan, choice: Choice, strides: [usize; 8], labels: [u64;
     ensures { result ≡ sum_n plan.axes (λ d. (plan_grid plan).start d (get_or labels d 0) * cell_stride (plan_grid plan) (summed_in plan choice.mask) d) }
 {
     let mut at: u64 = 0;
-    let mut d: usize = 0;
-    while d < plan.axes as usize {
+    for d in 0..plan.axes as usize {
         let i = plan.order[d] as usize;
         let start = portion_start(plan.lengths[i], plan.exponents[i], labels[d]);
         at += start * (strides[d] as u64);
-        d += 1;
     }
     at
 }

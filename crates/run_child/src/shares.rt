@@ -11,7 +11,7 @@ use plan_spec::types::Plan;
 use rack_grid::places::share_of;
 
 // A, the cells of a share, and where each region of a share starts.
-#[derive(Clone, Copy)]
+#[derive(Clone, Copy, Debug)]
 pub struct Regions {
     pub share: u64,
     pub starts: [u64; 8],
@@ -25,16 +25,10 @@ pub fn regions_of(plan: Plan) -> Regions
 {
     let share = share_of(plan);
     let mut starts = [0u64; 8];
-    let mut i: usize = 0;
-    while i < plan.axes as usize {
-        let region = region_of(plan, i);
-        starts[i] = region.start;
-        i += 1;
+    for i in 0..plan.axes as usize {
+        starts[i] = region_of(plan, i).start;
     }
-    Regions {
-        share: share,
-        starts: starts,
-    }
+    Regions { share, starts }
 }
 
 // Where region i of a board's share starts in the work area. It takes no plan, which would be copied at each call.

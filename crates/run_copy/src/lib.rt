@@ -84,9 +84,7 @@ pub fn copy_all(plan: Plan, choice: Choice, work: &[i64], res: &mut [i64])
     let next = next_of(plan, choice);
     let region = region_of(plan, next - 1);
     let leads = leads_of(plan, choice);
-    let mut r: u64 = 0;
-    while r < leads {
-        copy_rank(plan, choice, r, strides, region, work, res);
-        r += 1;
+    for rank in 0..leads {
+        copy_rank(plan, choice, rank, strides, region, work, res);
     }
 }

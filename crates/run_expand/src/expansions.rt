@@ -32,10 +32,8 @@ fn expand_cells(
     let labels = lead_labels(plan, choice, rank);
     let board = board_of(plan, labels);
     let n = plan.axes as usize;
-    let mut j = next;
-    while j < n {
+    for j in next..n {
         form_cells(plan, choice, next, regions, board, labels, j, work);
-        j += 1;
     }
 }
 
@@ -56,12 +54,10 @@ fn expand_points(
     let extents = extents_of(plan, root, labels);
     let first = first_cell(plan, root, strides, labels);
     let n = plan.axes as usize;
-    let mut j: usize = 0;
-    while j < n {
+    for j in 0..n {
         form_points(
             plan, root, regions, board, extents, strides, first, j, array, work,
         );
-        j += 1;
     }
 }
 
@@ -95,9 +91,7 @@ pub fn expand_all(plan: Plan, choice: Choice, array: &[i32], work: &mut [i64])
     let regions = regions_of(plan);
     let strides = strides_of(plan, choice);
     let leads = leads_of(plan, choice);
-    let mut r: u64 = 0;
-    while r < leads {
-        expand_lead(plan, choice, next, regions, strides, r, array, work);
-        r += 1;
+    for rank in 0..leads {
+        expand_lead(plan, choice, next, regions, strides, rank, array, work);
     }
 }

@@ -1,4 +1,4 @@
-use Prim.Native.Nat.{ℕ, ◌-◌, ◌≤◌}
+use Prim.Native.Nat.{ℕ, ◌≤◌}
 use mathlib.Core.Path.{◌≡◌}
 use Rattle.plan_spec.specs.Plans.{lists_of}
 use Rattle.plan_spec.specs.Accepted.{Accepted}
@@ -11,8 +11,5 @@ use Rattle.run_copy.proofs.copy_all.Given as goal
 abbrev leadCount : Plan → ℕ → ℕ
 leadCount q mask = leads (plan_grid q) (summed_in q mask)
 
-abbrev pub invariant-loop-r : goal.invariant-loop-r
-invariant-loop-r l = (Accepted l.plan) × (l.leads ≡ leadCount l.plan l.choice.mask) × (l.r ≤ l.leads) × (l.leads ≤ 1024) × (l.res ≡ leads_to (lists_of l.plan).lengths (plan_grid l.plan) (summed_in l.plan l.choice.mask) l.r (read l.work) l.initial.res)
-
-abbrev pub decreases-loop-r : goal.decreases-loop-r
-decreases-loop-r l = l.leads - l.r
+abbrev pub invariant-loop-rank : goal.invariant-loop-rank
+invariant-loop-rank l = (Accepted l.plan) × (l.leads ≡ leadCount l.plan l.choice.mask) × (l.rank ≤ l.leads) × (l.leads ≤ 1024) × (l.res ≡ leads_to (lists_of l.plan).lengths (plan_grid l.plan) (summed_in l.plan l.choice.mask) l.rank (read l.work) l.initial.res)

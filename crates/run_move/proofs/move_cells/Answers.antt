@@ -1,6 +1,5 @@
 use native.Mathlib.Omega.{arith}
 use Rattle.plan_spec.proofs.Accepting.{passed_accepted}
-use Prim.Native.Nat.{◌-◌}
 use mathlib.Core.Path.{◌∙◌}
 use Rattle.rack_spec.specs.Finding.{plan_grid}
 use Rattle.rack_spec.proofs.Tallied.{lawful, axes_same, boards_few}

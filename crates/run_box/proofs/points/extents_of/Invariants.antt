@@ -1,5 +1,5 @@
 -- `run_box::points::extents_of` meets its contract. The invariant: the slots before d are filled, and the others are zero.
-use Prim.Native.Nat.{ℕ, ◌-◌, ◌≤◌}
+use Prim.Native.Nat.{ℕ, ◌≤◌}
 use mathlib.Core.Path.{◌≡◌}
 use mathlib.Core.List.{List}
 use lib.ListN.{get_or}
@@ -17,6 +17,3 @@ sides q mask labels = box (plan_grid q) (summed_in q mask) (board_with (plan_gri
 
 abbrev pub invariant-loop-d : goal.invariant-loop-d
 invariant-loop-d l = (Accepted l.plan) × (Labels l.plan l.labels) × (l.d ≤ l.plan.axes) × (l.extents ≡ padded (table l.d (sides l.plan l.choice.mask l.labels)))
-
-abbrev pub decreases-loop-d : goal.decreases-loop-d
-decreases-loop-d l = l.plan.axes - l.d

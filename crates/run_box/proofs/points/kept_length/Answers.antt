@@ -12,5 +12,5 @@ bounds-plan-a c = let ok = passed_accepted c.args.plan (search rules) (search ru
 pub returns-then-keeps : goal.returns-then-keeps
 returns-then-keeps c = let ok = passed_accepted c.args.plan (search rules) (search rules) (search rules) c.requires.0 in let f = few_axes ok in along_kept c.args.plan ok c.args.choice.mask c.args.a c.requires.1 (sym c.keeps.ensures ∙ c.if-keeps.true)
 
-pub returns : goal.returns
-returns c = let ok = passed_accepted c.args.plan (search rules) (search rules) (search rules) c.requires.0 in let f = few_axes ok in along_summed c.args.plan ok c.args.choice.mask c.args.a c.requires.1 (sym c.keeps.ensures ∙ c.if-keeps.false)
+pub returns-else-keeps : goal.returns-else-keeps
+returns-else-keeps c = let ok = passed_accepted c.args.plan (search rules) (search rules) (search rules) c.requires.0 in let f = few_axes ok in along_summed c.args.plan ok c.args.choice.mask c.args.a c.requires.1 (sym c.keeps.ensures ∙ c.if-keeps.false)

@@ -1,5 +1,5 @@
 use borrow.Author.Rules.{rules}
-use Prim.Native.Nat.{ℕ, ◌-◌}
+use Prim.Native.Nat.{ℕ}
 use mathlib.Core.Path.{refl}
 use native.Mathlib.Omega.{arith}
 use Rattle.cube_spec.specs.Limits.{padded}
@@ -25,5 +25,5 @@ loop-d-preserved c =
     let i = c.loop-d.invariant in
     let h = c.loop-d-test.true in
     let f = few_axes i.0 in
-    let e = c.stride_of-stride.ensures.0 in
+    let e = c.stride_of.ensures.0 in
     (i.0, omega (arith, h), filled (apart a.plan a.choice.mask) c.loop-d.strides c.loop-d.d _ (omega (arith, h)) e i.2)

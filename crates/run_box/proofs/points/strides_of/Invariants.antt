@@ -1,5 +1,5 @@
 -- `run_box::points::strides_of` meets its contract. The invariant: the slots before d are filled, and the others are zero.
-use Prim.Native.Nat.{ℕ, ◌-◌, ◌≤◌}
+use Prim.Native.Nat.{ℕ, ◌≤◌}
 use mathlib.Core.Path.{◌≡◌}
 use Rattle.cube_spec.specs.Limits.{padded}
 use Rattle.cube_spec.specs.Boxes.{table}
@@ -15,6 +15,3 @@ apart q mask = cell_stride (plan_grid q) (summed_in q mask)
 
 abbrev pub invariant-loop-d : goal.invariant-loop-d
 invariant-loop-d l = (Accepted l.plan) × (l.d ≤ l.plan.axes) × (l.strides ≡ padded (table l.d (apart l.plan l.choice.mask)))
-
-abbrev pub decreases-loop-d : goal.decreases-loop-d
-decreases-loop-d l = l.plan.axes - l.d

@@ -1,4 +1,3 @@
-use Prim.Native.Nat.{◌-◌}
 use mathlib.Core.Path.{refl, ◌∙◌}
 use native.Mathlib.Omega.{arith}
 use Rattle.cube_spec.specs.Limits.{padded}
@@ -23,5 +22,5 @@ loop-i-preserved c =
     let i = c.loop-i.invariant in
     let h = c.loop-i-test.true in
     let f = few_axes i.0 in
-    let e = c.region_of-region.ensures.0 ∙ start_plan c.args.plan i.0 c.loop-i.i in
+    let e = c.region_of.ensures.0 ∙ start_plan c.args.plan i.0 c.loop-i.i in
     (i.0, omega (arith, h), filled (region_start (plan_grid c.args.plan)) c.loop-i.starts c.loop-i.i _ (omega (arith, h)) e i.2)

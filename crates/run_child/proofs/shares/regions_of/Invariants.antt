@@ -1,5 +1,5 @@
 -- `run_child::shares::regions_of` meets its contract. The invariant: the regions before region i stand in their slots, and the other slots are zero.
-use Prim.Native.Nat.{◌-◌, ◌≤◌}
+use Prim.Native.Nat.{◌≤◌}
 use mathlib.Core.Path.{◌≡◌}
 use Rattle.cube_spec.specs.Limits.{padded}
 use Rattle.cube_spec.specs.Boxes.{table}
@@ -10,6 +10,3 @@ use Rattle.run_child.proofs.shares.regions_of.Given as goal
 
 abbrev pub invariant-loop-i : goal.invariant-loop-i
 invariant-loop-i l = (Accepted l.plan) × (l.i ≤ l.plan.axes) × (l.starts ≡ padded (table l.i (region_start (plan_grid l.plan))))
-
-abbrev pub decreases-loop-i : goal.decreases-loop-i
-decreases-loop-i l = l.plan.axes - l.i

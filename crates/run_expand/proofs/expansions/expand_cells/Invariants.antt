@@ -1,5 +1,4 @@
 -- `run_expand::expansions::expand_cells` meets its contract. The invariant: the lead's children in regions before j are formed.
-use Prim.Native.Nat.{◌-◌}
 use mathlib.Core.List.{[]}
 use Rattle.plan_spec.specs.Accepted.{Accepted}
 use Rattle.rack_spec.specs.Finding.{plan_grid, summed_in, lead_at}
@@ -9,6 +8,3 @@ use Rattle.run_expand.proofs.expansions.expand_cells.Given as goal
 
 abbrev pub invariant-loop-j : goal.invariant-loop-j
 invariant-loop-j l = (Accepted l.plan) × Children l.plan l.choice.mask (read []) (lead_at (plan_grid l.plan) (summed_in l.plan l.choice.mask) l.rank) l.initial.work l.work l.j
-
-abbrev pub decreases-loop-j : goal.decreases-loop-j
-decreases-loop-j l = l.n - l.j
