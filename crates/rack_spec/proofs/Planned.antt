@@ -380,14 +380,6 @@ module _ (q : Plan) (ok : Accepted q) where
   pub has_slot : (mask d : ℕ) → d < q.axes → keeps mask (get_or q.order d 0) ≡ not (has (summed_in q mask) d)
   has_slot mask d h = let e = axes_same q ok in rw (order_slot q ok d h) (sym (ap not (summed_has (plan_grid q) mask d (omega arith)) ∙ not_not _))
 
--- no axis before d that the choice sums out has another label than 0
-abbrev pub LeadTo : Plan → ℕ → ℕ → ℕ → Type 0
-LeadTo q mask b d = (i : ℕ) → i < d → (eqb (label (plan_grid q) b i) 0 || not (has (summed_in q mask) i)) ≡ true
-
-pub lead_turn : (q : Plan) (mask b d : ℕ) → LeadTo q mask b d → (eqb (label (plan_grid q) b d) 0 || not (has (summed_in q mask) d)) ≡ true → LeadTo q mask b (d + 1)
-lead_turn q mask b d before t i h =
-    by (eqb i d) (λ s. rw (eqb-true i d s) t) (λ s. let ne = eqb-false i d s in before i (omega (arith, ne)))
-
 -- ---- the cells of a board with given labels, counted axis by axis
 
 -- from place `first` up to place d
@@ -406,9 +398,6 @@ module _ (q : Plan) (ok : Accepted q) (mask : ℕ) (labels : List ℕ) (first : 
       let n : count * kept Y (λ e. (plan_grid q).start e (suc (get_or labels d 0)) - (plan_grid q).start e (get_or labels d 0)) d ≡ product (box (plan_grid q) Y b) (d + 1 - first) first =
       ap (λ x. count * x) (extent_slot q ok labels fits Y d h) ∙ ap (λ x. x * box (plan_grid q) Y b d) c.counted ∙ cells_next (plan_grid q) Y b first d l in
       record { counted = n; fits = rw n (cells_small q ok Y b first (d + 1) (board_in q ok labels fits) (omega arith) (omega arith)) }
-
-  pub cells_end : (count d e : ℕ) → d ≡ e → CellsTo q mask labels first count d → (count ≡ product (box (plan_grid q) (summed_in q mask) (board_with (plan_grid q) (λ d. get_or labels d 0))) (e - first) first) × (count ≤ point_limit)
-  cells_end count d e s c = (c.counted ∙ ap (λ n. product (box (plan_grid q) (summed_in q mask) (board_with (plan_grid q) (λ d. get_or labels d 0))) (n - first) first) s, c.fits)
 
   pub cells_whole : (count : ℕ) → count ≡ product (box (plan_grid q) (summed_in q mask) (board_with (plan_grid q) (λ d. get_or labels d 0))) (q.axes - 0) 0 → count ≡ cells (plan_grid q) (summed_in q mask) (board_with (plan_grid q) (λ d. get_or labels d 0))
   unfolding cells
