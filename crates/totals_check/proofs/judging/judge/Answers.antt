@@ -1,96 +1,43 @@
-use Rattle.totals_check.proofs.Judged.{judged_as_lem, scan_refused, too_many_axes, planning_refused, plan_accepted, points_refused, many_points, large_area, taken}
+-- `totals_check::judging::judge` meets its contract. The refusals in their order, then the plan.
+use Rattle.std.proofs.Common.{◌≡◌, ◌∙◌, rules}
+use Rattle.cube_spec.specs.Checks.{refuses}
+use Rattle.cube_spec.specs.Refusals.{number_of, reply_of}
+use Rattle.totals_check.proofs.Judged as laws
 use Rattle.totals_check.proofs.judging.judge.Goals as goal
 
-pub returns-then-found-ne0 : goal.returns-then-found-ne0
-returns-then-found-ne0 c =
-    let tape = c.args.tape.now in
-    let f = c.scan-found.result in
-    let e = c.scan-found.ensures in
-    judged_as_lem tape f e f.refusal c.refused.result c.refused.ensures (scan_refused tape f e c.if-found-ne0.true)
+pub returns-in_err-found : goal.returns-in_err-found
+returns-in_err-found c =
+    let n = number_of c.in_err-found.field-0.0 in
+    let q : reply_of c.from_residual.result ≡ refuses n = search rules in
+    q ∙ laws.scan_refused _ n c.in_err-found.ensures
 
 pub returns-then-found-gt8 : goal.returns-then-found-gt8
-returns-then-found-gt8 c =
-    let tape = c.args.tape.now in
-    let f = c.scan-found.result in
-    let e = c.scan-found.ensures in
-    let h = c.if-found-ne0.false in
-    judged_as_lem tape f e 3 c.refused-then-found-gt8.result c.refused-then-found-gt8.ensures (too_many_axes tape f e h c.if-found-gt8.true)
+returns-then-found-gt8 c = laws.too_many_axes _ _ c.in_ok-found.ensures c.if-found-gt8.true
 
-pub returns-then-planned-ne0 : goal.returns-then-planned-ne0
-returns-then-planned-ne0 c =
-    let tape = c.args.tape.now in
-    let f = c.scan-found.result in
-    let e = c.scan-found.ensures in
-    let h = c.if-found-ne0.false in
-    let few = c.if-found-gt8.false in
-    let p = c.plan_first-planned in
-    planning_refused tape f e h few p.result p.ensures c.if-planned-ne0.true
+pub returns-in_err-planned : goal.returns-in_err-planned
+returns-in_err-planned c =
+    let n = number_of c.in_err-planned.field-0.0 in
+    let q : reply_of c.from_residual-in_err-planned.result ≡ refuses n = search rules in
+    q ∙ laws.planning_refused _ _ c.in_ok-found.ensures c.if-found-gt8.false n c.in_err-planned.ensures
 
 pub points_of-points-requires : goal.points_of-points-requires
-points_of-points-requires c =
-    let tape = c.args.tape.now in
-    let f = c.scan-found.result in
-    let e = c.scan-found.ensures in
-    let h = c.if-found-ne0.false in
-    let few = c.if-found-gt8.false in
-    let p = c.plan_first-planned in
-    plan_accepted tape f e h few p.result p.ensures c.if-planned-ne0.false
+points_of-points-requires c = laws.plan_accepted _ _ c.in_ok-found.ensures c.if-found-gt8.false _ c.in_ok-planned.ensures
 
 pub returns-then-points-found : goal.returns-then-points-found
 returns-then-points-found c =
-    let tape = c.args.tape.now in
-    let f = c.scan-found.result in
-    let e = c.scan-found.ensures in
-    let h = c.if-found-ne0.false in
-    let few = c.if-found-gt8.false in
-    let p = c.plan_first-planned in
-    let z = c.if-planned-ne0.false in
-    let n = c.points_of-points in
-    judged_as_lem tape f e 10 c.refused-then-points-found.result c.refused-then-points-found.ensures (points_refused tape f e h few p.result p.ensures z n.result n.ensures c.if-points-found.true)
+    laws.points_refused _ _ c.in_ok-found.ensures c.if-found-gt8.false _ c.in_ok-planned.ensures _ c.points_of-points.ensures c.if-points-found.true
 
 pub returns-then-points-gt8192 : goal.returns-then-points-gt8192
 returns-then-points-gt8192 c =
-    let tape = c.args.tape.now in
-    let f = c.scan-found.result in
-    let e = c.scan-found.ensures in
-    let h = c.if-found-ne0.false in
-    let few = c.if-found-gt8.false in
-    let p = c.plan_first-planned in
-    let z = c.if-planned-ne0.false in
-    let n = c.points_of-points in
-    judged_as_lem tape f e 11 c.refused-then-points-gt8192.result c.refused-then-points-gt8192.ensures (many_points tape f e h few p.result p.ensures z n.result n.ensures c.if-points-found.false c.if-points-gt8192.true)
+    laws.many_points _ _ c.in_ok-found.ensures c.if-found-gt8.false _ c.in_ok-planned.ensures _ c.points_of-points.ensures c.if-points-found.false c.if-points-gt8192.true
 
 pub area_of-area-requires : goal.area_of-area-requires
-area_of-area-requires c =
-    let tape = c.args.tape.now in
-    let f = c.scan-found.result in
-    let e = c.scan-found.ensures in
-    let h = c.if-found-ne0.false in
-    let few = c.if-found-gt8.false in
-    let p = c.plan_first-planned in
-    let z = c.if-planned-ne0.false in
-    plan_accepted tape f e h few p.result p.ensures z
+area_of-area-requires c = laws.plan_accepted _ _ c.in_ok-found.ensures c.if-found-gt8.false _ c.in_ok-planned.ensures
 
 pub returns-then-area-gt8192 : goal.returns-then-area-gt8192
 returns-then-area-gt8192 c =
-    let tape = c.args.tape.now in
-    let f = c.scan-found.result in
-    let e = c.scan-found.ensures in
-    let h = c.if-found-ne0.false in
-    let few = c.if-found-gt8.false in
-    let p = c.plan_first-planned in
-    let z = c.if-planned-ne0.false in
-    let n = c.points_of-points in
-    judged_as_lem tape f e 11 c.refused-then-area-gt8192.result c.refused-then-area-gt8192.ensures (large_area tape f e h few p.result p.ensures z n.result n.ensures c.if-points-found.false c.if-points-gt8192.false c.area_of-area.result c.area_of-area.ensures.0 c.if-area-gt8192.true)
+    laws.large_area _ _ c.in_ok-found.ensures c.if-found-gt8.false _ c.in_ok-planned.ensures _ c.points_of-points.ensures c.if-points-found.false c.if-points-gt8192.false _ c.area_of-area.ensures.0 c.if-area-gt8192.true
 
 pub returns : goal.returns
 returns c =
-    let tape = c.args.tape.now in
-    let f = c.scan-found.result in
-    let e = c.scan-found.ensures in
-    let h = c.if-found-ne0.false in
-    let few = c.if-found-gt8.false in
-    let p = c.plan_first-planned in
-    let z = c.if-planned-ne0.false in
-    let n = c.points_of-points in
-    taken tape f e h few p.result p.ensures z n.result n.ensures c.if-points-found.false c.if-points-gt8192.false c.area_of-area.result c.area_of-area.ensures.0 c.if-area-gt8192.false
+    laws.taken _ _ c.in_ok-found.ensures c.if-found-gt8.false _ c.in_ok-planned.ensures _ c.points_of-points.ensures c.if-points-found.false c.if-points-gt8192.false _ c.area_of-area.ensures.0 c.if-area-gt8192.false
