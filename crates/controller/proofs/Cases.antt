@@ -2,6 +2,7 @@
 use mathlib.Core.Path.{◌≡◌, refl}
 use mathlib.Core.List.{[], ◌∷◌}
 use lib.ListN.{replicate}
+use Rattle.cube_spec.specs.Checks.{gives, refuses}
 use Rattle.controller.specs.Computing.{computing}
 use Rattle.controller.specs.Bytes.{asking, controller_refusal, written}
 
@@ -35,9 +36,9 @@ left : (written (2 ∷ 0 ∷ 3 ∷ []) 1 (7 ∷ 8 ∷ []) ≡ (7 ∷ 8 ∷ [])) 
 unfolding computing
 left = (refl, refl)
 
--- what is asked for: all boards in use, 8 of 64, and a refusal with nothing beside it
-asks : (asking (2 ∷ 0 ∷ 5 ∷ 0 ∷ []) 1 ≡ record { refusal = 0; used = 1; idle = 0; lengths = 2 ∷ 5 ∷ replicate 6 0 })
-    × (asking (5 ∷ 0 ∷ 2 ∷ 0 ∷ []) 6 ≡ record { refusal = 0; used = 3; idle = 56; lengths = 5 ∷ 2 ∷ replicate 6 0 })
-    × (asking (5 ∷ 0 ∷ 2 ∷ 0 ∷ []) 11 ≡ record { refusal = 6; used = 0; idle = 0; lengths = replicate 8 0 })
+-- what is asked for: all boards in use, 8 of 64, and a refusal
+asks : (asking (2 ∷ 0 ∷ 5 ∷ 0 ∷ []) 1 ≡ gives (record { used = 1; idle = 0; lengths = 2 ∷ 5 ∷ replicate 6 0 }))
+    × (asking (5 ∷ 0 ∷ 2 ∷ 0 ∷ []) 6 ≡ gives (record { used = 3; idle = 56; lengths = 5 ∷ 2 ∷ replicate 6 0 }))
+    × (asking (5 ∷ 0 ∷ 2 ∷ 0 ∷ []) 11 ≡ refuses 6)
 unfolding computing
 asks = (refl, refl, refl)

@@ -3,16 +3,20 @@ use Prim.Native.Nat.{ℕ, zero, suc, ◌+◌, ◌-◌, ◌*◌, ◌/◌, ◌%◌
 use mathlib.Core.Path.{◌≡◌, sym, ◌∙◌, refl, ap, ap₂}
 use mathlib.Core.Bool.{true, false}
 use mathlib.Core.List.{List, [], ◌∷◌, ◌++◌, append-nil}
-use native.Mathlib.Nat.{zero-add}
 use native.Mathlib.Omega.{arith}
 use borrow.Author.Tests.{eq-eqb, ne_eqb, eqb-false}
 use lib.Dec.{eqb}
-use lib.ListN.{length, get_or, take, drop, replicate, drop_of_length-le}
-use lib.Seq.{paste, take-paste, length-paste}
+use lib.ListN.{length, get_or, take, drop, drop_of_length-le, length-append, length-take, length-drop}
+use lib.Seq.{length-take-le}
+use borrow.Rule.Slice.PartMut.{put_mid}
+use Rattle.std.proofs.lemmas.List.{take_at}
 use Rattle.cube_spec.specs.Limits.{axis_limit, padded}
 use Rattle.cube_spec.specs.Bytes.{little}
 use Rattle.cube_spec.specs.Boxes.{pick, table}
-use Rattle.cube_spec.specs.Checks.{check, first}
+use Rattle.cube_spec.specs.declared.refusals.Refusal.{Refusal}
+use Rattle.cube_spec.specs.Refusals.{number_of}
+use Rattle.cube_spec.specs.Checks.{check, first, gives, refuses}
+use Rattle.cube_spec.proofs.Answered.{gives_is, refuses_is, given, error}
 use Rattle.cube_spec.proofs.Slots.{padded_length, padded_all, padded_take}
 use Rattle.cube_spec.proofs.Dues.{Numbered, first_due, first_passed, none_first, none_both, lacks, never}
 use Rattle.plan_spec.specs.declared.types.Arrangement.{Arrangement}
@@ -24,7 +28,7 @@ use Rattle.plan_spec.proofs.Answering.{too_many_lem}
 use Rattle.plan_spec.proofs.Places.{order_length}
 use Rattle.plan_spec.proofs.Chosen.{exponents_length}
 use Rattle.controller.specs.declared.types.Asked.{Asked}
-use Rattle.controller.specs.Bytes.{pairs, odd_bytes, asked_checks, asked_refusal, asked_as, asking, wrong_result, controller_checks, controller_refusal, written_or, written}
+use Rattle.controller.specs.Bytes.{pairs, odd_bytes, asked_checks, asked_refusal, asked_of, asking, wrong_result, controller_checks, controller_refusal, written_or, written}
 
 -- ---- pairs
 
@@ -96,48 +100,41 @@ module _ (bytes : List ℕ) (p : ℕ) where
       let f = (planning_passed ds p (asks_none z)).0.few in
       omega arith
 
--- the answer carries the refusal; without one it has the lengths, the p used and the idle boards
-pub blank : (n : ℕ) → 0 < n → (l : List ℕ) (p : ℕ) → ◌≡◌ {A = Asked} (record { refusal = n; used = 0; idle = 0; lengths = replicate axis_limit 0 }) (asked_as n l p)
-blank zero h l p = absurd (omega arith)
-blank (suc n) h l p = unfold asked_as padded in refl
-
-refusal_of : (n : ℕ) (l : List ℕ) (p : ℕ) → (asked_as n l p).refusal ≡ n
-refusal_of zero l p = unfold asked_as in refl
-refusal_of (suc n) l p = unfold asked_as in refl
-
 module _ (bytes : List ℕ) (p : ℕ) where
-  pub asked_as_lem : (r : Asked) (n : ℕ) → ((l : List ℕ) (q : ℕ) → r ≡ asked_as n l q) → n ≡ asked_refusal bytes p → r ≡ asking bytes p
+  -- what is refused, and what is given
+  pub asked_error : (n : Refusal) → number_of n ≡ asked_refusal bytes p → refuses (number_of n) ≡ asking bytes p
   unfolding asking
-  asked_as_lem r n h e = h (pairs bytes) p ∙ ap (λ k. asked_as k (pairs bytes) p) e
+  asked_error n e = error n (asked_refusal bytes p) (asked_of (pairs bytes) p) e
 
-  pub asked_given : 0 ≡ asked_refusal bytes p → (u i : ℕ) (slots : List ℕ) → u ≡ power_used (pairs bytes) p → i ≡ 2 ^ p - 2 ^ u → slots ≡ padded (pairs bytes)
-      → ◌≡◌ {A = Asked} (record { refusal = 0; used = u; idle = i; lengths = slots }) (asking bytes p)
-  unfolding asking asked_as idle_boards
+  pub asked_given : asked_refusal bytes p ≡ 0 → (u i : ℕ) (slots : List ℕ) → u ≡ power_used (pairs bytes) p → i ≡ 2 ^ p - 2 ^ u → slots ≡ padded (pairs bytes)
+      → gives (record { used = u; idle = i; lengths = slots }) ≡ asking bytes p
+  unfolding asking idle_boards
   asked_given z u i slots eu ei es =
       let f : i ≡ 2 ^ p - 2 ^ power_used (pairs bytes) p = ei ∙ ap (λ k. 2 ^ p - 2 ^ k) eu in
-      (λ j. record { refusal = 0; used = eu j; idle = f j; lengths = es j }) ∙ ap (λ k. asked_as k (pairs bytes) p) z
+      ap gives (λ j. record { used = eu j; idle = f j; lengths = es j }) ∙ given (asked_refusal bytes p) (asked_of (pairs bytes) p) z
 
-  module _ (a : Asked) (e : a ≡ asking bytes p) where
-    pub refusal_is : a.refusal ≡ asked_refusal bytes p
+  -- and what an answer says
+  pub error_is : (n : ℕ) → refuses n ≡ asking bytes p → n ≡ asked_refusal bytes p
+  unfolding asking
+  error_is n e = refuses_is (asked_refusal bytes p) n (asked_of (pairs bytes) p) e
+
+  module _ (a : Asked) (e : gives a ≡ asking bytes p) where
+    pub asked_fine : asked_refusal bytes p ≡ 0
     unfolding asking
-    refusal_is = ap (λ (x : Asked). x.refusal) e ∙ refusal_of (asked_refusal bytes p) (pairs bytes) p
+    asked_fine = (gives_is (asked_refusal bytes p) (asked_of (pairs bytes) p) a e).0
 
-    module _ (z : a.refusal ≡ 0) where
-      given : a ≡ asked_as 0 (pairs bytes) p
-      unfolding asking
-      given = e ∙ ap (λ k. asked_as k (pairs bytes) p) (sym refusal_is ∙ z)
+    asked_is : a ≡ asked_of (pairs bytes) p
+    unfolding asking
+    asked_is = (gives_is (asked_refusal bytes p) (asked_of (pairs bytes) p) a e).1
 
-      pub used_is : a.used ≡ power_used (pairs bytes) p
-      unfolding asked_as
-      used_is = ap (λ (x : Asked). x.used) given
+    pub used_is : a.used ≡ power_used (pairs bytes) p
+    used_is = ap (λ (x : Asked). x.used) asked_is
 
-      pub idle_is : a.idle ≡ idle_boards (pairs bytes) p
-      unfolding asked_as
-      idle_is = ap (λ (x : Asked). x.idle) given
+    pub idle_is : a.idle ≡ idle_boards (pairs bytes) p
+    idle_is = ap (λ (x : Asked). x.idle) asked_is
 
-      pub lengths_are : a.lengths ≡ padded (pairs bytes)
-      unfolding asked_as
-      lengths_are = ap (λ (x : Asked). x.lengths) given
+    pub lengths_are : a.lengths ≡ padded (pairs bytes)
+    lengths_are = ap (λ (x : Asked). x.lengths) asked_is
 
 -- ---- the refusal of planning over bytes
 
@@ -184,13 +181,15 @@ left bytes p r result e h = go (controller_refusal bytes p (length result)) (λ 
     go (suc k) h = unfold written_or in refl
 
 -- two copies, one after the other, that fill a list
-two_pastes : (out a b : List ℕ) (n : ℕ) → length out ≡ n + n → n ≤ length a → n ≤ length b → paste (paste out 0 a n) n b n ≡ take n a ++ take n b
-two_pastes out a b n h ha hb =
-    let t = simp zero-add at (take-paste out 0 a n (omega arith) ha) in
-    let l : length (paste out 0 a n) ≡ length out = length-paste out 0 a n (omega arith) ha in
-    let d : drop (n + n) (paste out 0 a n) ≡ [] = drop_of_length-le (paste out 0 a n) {i = n + n} (omega arith) in
-    let d' = simp zero-add at d in
-    simp (zero-add, t, d', append-nil)
+module _ (res x y : List ℕ) (n : ℕ) (full : length res ≡ n + n) (long : length x ≡ n) where
+  pub copied_length : length (take (length (x ++ drop n res) - n) (drop n (x ++ drop n res))) ≡ n
+  copied_length = simp (length-take, length-drop, length-append) (omega arith)
+
+  two_copies : put_mid n (length (x ++ drop n res) - n) (x ++ drop n res) y ≡ x ++ y
+  two_copies =
+      let d = length-drop n (x ++ drop n res) in
+      let none : drop (length (x ++ drop n res) - n) (drop n (x ++ drop n res)) ≡ [] = drop_of_length-le (drop n (x ++ drop n res)) {i = length (x ++ drop n res) - n} (omega arith) in
+      ap₂ ◌++◌ (take_at x (drop n res) n long) (ap (λ l. y ++ l) none ∙ append-nil y)
 
 -- the order and the exponents of the p used, put one after the other, are what is written
 module _ (bytes : List ℕ) (p u n : ℕ) (result : List ℕ) (used : u ≡ power_used (pairs bytes) p) (v : Arrangement) (l : List ℕ)
@@ -206,15 +205,17 @@ module _ (bytes : List ℕ) (p u n : ℕ) (result : List ℕ) (used : u ≡ powe
   unfolding arrangement
   cut = ap (λ (w : Arrangement). w.exponents) arranged ∙ ap (λ x. padded (ordered_exponents x u)) same
 
-  pub put_both : 0 ≡ controller_refusal bytes p (length result) → length result ≡ n + n → n ≤ axis_limit → length ds' ≡ n
-      → paste (paste result 0 v.order n) n v.exponents n ≡ written bytes p result
+  pub order_long : n ≤ axis_limit → length (take n v.order) ≡ n
+  order_long fits = length-take-le n v.order (let q = padded_length (order ds') in rw ordered (omega arith))
+
+  pub exponents_long : n ≤ axis_limit → length (take n v.exponents) ≡ n
+  exponents_long fits = length-take-le n v.exponents (let q = padded_length (ordered_exponents ds' u) in rw cut (omega arith))
+
+  pub put_both : 0 ≡ controller_refusal bytes p (length result) → length result ≡ n + n → n ≤ axis_limit → length ds' ≡ n → (x y : List ℕ) → x ≡ take n v.order → y ≡ take n v.exponents
+      → put_mid n (length (x ++ drop n result) - n) (x ++ drop n result) y ≡ written bytes p result
   unfolding written written_or
-  put_both z e fits en =
-      let lo = order_length ds' ∙ en in
-      let lk = exponents_length ds' u ∙ en in
-      let wide : n ≤ length v.order = (let q = padded_length (order ds') in rw ordered (omega arith)) in
-      let wide' : n ≤ length v.exponents = (let q = padded_length (ordered_exponents ds' u) in rw cut (omega arith)) in
-      let both = two_pastes result v.order v.exponents n e wide wide' in
-      let first' = ap (take n) ordered ∙ padded_take (order ds') n lo fits in
-      let second = ap (take n) cut ∙ padded_take (ordered_exponents ds' u) n lk fits in
-      rw (← z) (both ∙ ap₂ ◌++◌ first' second ∙ ap (λ y. order ds' ++ ordered_exponents ds' y) used)
+  put_both z e fits en x y ex ey =
+      let first' = ap (take n) ordered ∙ padded_take (order ds') n (order_length ds' ∙ en) fits in
+      let second = ap (take n) cut ∙ padded_take (ordered_exponents ds' u) n (exponents_length ds' u ∙ en) fits in
+      rw (← z)
+      (two_copies result x y n e (ap length ex ∙ order_long fits) ∙ ap₂ ◌++◌ (ex ∙ first') (ey ∙ second) ∙ ap (λ y. order ds' ++ ordered_exponents ds' y) used)

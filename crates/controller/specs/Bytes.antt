@@ -4,7 +4,7 @@ use Rattle.cube_spec.specs.Limits.{padded}
 use Rattle.cube_spec.specs.Bytes.{little}
 use Rattle.cube_spec.specs.Boxes.{table}
 use Rattle.cube_spec.specs.Ways.{sum_list}
-use Rattle.cube_spec.specs.Checks.{Check, check, first}
+use Rattle.cube_spec.specs.Checks.{Check, check, first, Reply, answered}
 use Rattle.plan_spec.specs.Plans.{PlanLists, find}
 use Rattle.plan_spec.specs.Rule.{order, ordered_exponents, power_used, idle_boards}
 use Rattle.plan_spec.specs.Refusals.{planning_checks}
@@ -29,13 +29,13 @@ asked_checks bytes p = check 3 (odd_bytes bytes) ∷ planning_checks (pairs byte
 unfoldable pub asked_refusal : List ℕ → ℕ → ℕ
 asked_refusal bytes p = first (asked_checks bytes p)
 
--- the lengths in slots, the p used and the idle boards; or the refusal, and nothing beside it
-unfoldable pub asked_as : ℕ → List ℕ → ℕ → Asked
-asked_as zero ds p = record { refusal = 0; used = power_used ds p; idle = idle_boards ds p; lengths = padded ds }
-asked_as (suc n) ds p = record { refusal = suc n; used = 0; idle = 0; lengths = padded [] }
+-- the lengths in slots, the p used and the idle boards
+abbrev pub asked_of : List ℕ → ℕ → Asked
+asked_of ds p = record { used = power_used ds p; idle = idle_boards ds p; lengths = padded ds }
 
-unfoldable pub asking : List ℕ → ℕ → Asked
-asking bytes p = asked_as (asked_refusal bytes p) (pairs bytes) p
+-- or the refusal, and nothing beside it
+unfoldable pub asking : List ℕ → ℕ → Reply Asked
+asking bytes p = answered (asked_refusal bytes p) (asked_of (pairs bytes) p)
 
 -- ---- planning
 

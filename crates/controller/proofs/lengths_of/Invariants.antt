@@ -1,13 +1,9 @@
-use Prim.Native.Nat.{◌≤◌, ◌-◌, ◌+◌}
 use mathlib.Core.Path.{◌≡◌}
-use lib.ListN.{length, get_or}
+use lib.ListN.{get_or}
 use Rattle.cube_spec.specs.Limits.{padded}
 use Rattle.cube_spec.specs.Boxes.{table}
 use Rattle.controller.specs.Bytes.{pairs}
 use Rattle.controller.proofs.lengths_of.Given as goal
 
 abbrev pub invariant-loop-i : goal.invariant-loop-i
-invariant-loop-i l = (l.i ≤ l.n) × (l.n ≤ 8) × (length l.bytes ≡ l.n + l.n) × (l.out ≡ padded (table l.i (λ j. get_or (pairs l.bytes) j 0)))
-
-abbrev pub decreases-loop-i : goal.decreases-loop-i
-decreases-loop-i l = l.n - l.i
+invariant-loop-i l = l.out ≡ padded (table l.i (λ j. get_or (pairs l.bytes) j 0))
