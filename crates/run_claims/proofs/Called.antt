@@ -10,16 +10,19 @@ use lib.IntN.{ℤ}
 use contract.Lifetimes.{Lfts}
 use borrow.Fn.World.{ArgsD, ResD}
 use denote.Triple.Clauses.{AtExit}
+use Rattle.std.specs.Prelude.{Ok}
 use Rattle.cube_spec.specs.Checks.{gives}
+use Rattle.cube_spec.specs.Refusals.{reply_of}
 use Rattle.plan_spec.specs.Plans.{Sound, moved, board_count, step_count, lists_of}
 use Rattle.plan_spec.specs.Rule.{power_used}
 use Rattle.plan_spec.specs.Answers.{prices_of}
 use Rattle.plan_spec.specs.declared.types.Plan.{Plan}
+use Rattle.plan_spec.specs.declared.types.Planned.{Planned}
 use Rattle.rack_spec.specs.Finding.{plan_grid}
 use Rattle.rack_spec.specs.Steps.{TreeStep, expand, transfer, finish, steps}
 use Rattle.rack_spec.specs.Grids as Grids
 use Rattle.rack_spec.specs.Grids.{mask_of}
-use Rattle.rack_spec.specs.Answers.{Told, transfers, done, refused, told, telling, told_at, held_reply, holding, reported_by}
+use Rattle.rack_spec.specs.Answers.{Told, transfers, done, refused, told_by, telling, told_at, holding, reported_by}
 use Rattle.rack_spec.specs.Held as Held
 use Rattle.rack_spec.proofs.Lawful.{grid_lawful}
 use Rattle.rack_spec.proofs.Counting.{steps_length}
@@ -43,7 +46,7 @@ use Rattle.run_claims.specs.Calls.{Call, reached, reported, AnsweredWith, Answer
 
 -- Statement: of a call, what it was lent and what it left.
 abbrev pub call_of : (κs : Lfts 3) (a : ArgsD signature κs) (r : ResD signature κs) (s : AtExit ended κs) → Call
-call_of κs a r s = record { array = a.1.0.now; work = a.1.1.0.now; from = a.1.1.1.0.now; answer = told r; left = s.1.1.0.now; to = s.1.1.1.0.now }
+call_of κs a r s = record { array = a.1.0.now; work = a.1.1.0.now; from = a.1.1.1.0.now; answer = told_by r; left = s.1.1.0.now; to = s.1.1.1.0.now }
 
 -- Statement: "The list holds step calls on one plan"; "The first gets position 0, each later one the position as it stood after the call before".
 -- "Each call may be lent any array and any work area": others may write between calls.
@@ -53,7 +56,7 @@ pub data Calls (q : Plan) : List Call → Type 0 where
       → reads.Learnt κs a r s → a.0 ≡ q → a.1.1.1.0.now ≡ reached l → Calls q (call_of κs a r s ∷ l)
 
 -- what one call did
-pub does : (κs : Lfts 3) (a : ArgsD signature κs) (r : ResD signature κs) (s : AtExit ended κs) → reads.Learnt κs a r s → outcome (told r) s.1.1.0.now s.1.1.1.0.now ≡ stepping a.0 a.1.0.now a.1.1.0.now a.1.1.1.0.now
+pub does : (κs : Lfts 3) (a : ArgsD signature κs) (r : ResD signature κs) (s : AtExit ended κs) → reads.Learnt κs a r s → outcome (told_by r) s.1.1.0.now s.1.1.1.0.now ≡ stepping a.0 a.1.0.now a.1.1.0.now a.1.1.1.0.now
 does κs a r s h = h
 
 -- what is so of a call that is made after any list is so of every call of a list
@@ -87,11 +90,11 @@ listed start = record { calls = []; there = unfold Claimed.reached in refl; tota
 listed {q} (one_more {l} before κs a r s h e p) =
     let i = listed before in
     let c : Lent = record { array = a.1.0.now; work = a.1.1.0.now } in
-    let o : outcome (told r) s.1.1.0.now s.1.1.1.0.now ≡ stepping q a.1.0.now a.1.1.0.now (reached l) = does κs a r s h ∙ ap₂ (λ x y. stepping x a.1.0.now a.1.1.0.now y) e p in
+    let o : outcome (told_by r) s.1.1.0.now s.1.1.1.0.now ≡ stepping q a.1.0.now a.1.1.0.now (reached l) = does κs a r s h ∙ ap₂ (λ x y. stepping x a.1.0.now a.1.1.0.now y) e p in
     record {
       calls = i.calls ++ (c ∷ []);
       there = reached_more q 0 i.calls c ∙ ap (λ x. (stepping q a.1.0.now a.1.1.0.now x).position) i.there ∙ ap (λ (x : Outcome). x.position) (sym o);
-      total = reported_more q 0 i.calls c ∙ ap₂ ◌+◌ i.total (ap (λ x. reported_by (stepping q a.1.0.now a.1.1.0.now x).says) i.there ∙ ap (λ (x : Outcome). reported_by x.says) (sym o)) ∙ add_comm (reported l) (reported_by (told r));
+      total = reported_more q 0 i.calls c ∙ ap₂ ◌+◌ i.total (ap (λ x. reported_by (stepping q a.1.0.now a.1.1.0.now x).says) i.there ∙ ap (λ (x : Outcome). reported_by x.says) (sym o)) ∙ add_comm (reported l) (reported_by (told_by r));
     }
 
 -- ---- what one call answers
@@ -144,71 +147,71 @@ module _ (q : Plan) (sound : Sound (lists_of q)) (some_axes : 1 ≤ length (list
       let n : suc k ≡ 0 → ⊥ = λ e. omega arith in
       rw a (sym z, n, ap (λ (x : Outcome). x.work) e, ap (λ (x : Outcome). x.position) e)
 
--- ---- the claim, on "one plan that the planner returned": what its callers learned with refusal 0
+-- ---- the claim, on "one plan that the planner returned": what its callers learned with a plan
 
-module _ (κp : Lfts 1) (ap' : ArgsD plan.signature κp) (rp : ResD plan.signature κp) (sp : AtExit plan.ended κp) (hp : plan_reads.Learnt κp ap' rp sp) (zero_refusal : rp.refusal ≡ 0) where
+module _ (κp : Lfts 1) (ap' : ArgsD plan.signature κp) (rp : ResD plan.signature κp) (sp : AtExit plan.ended κp) (hp : plan_reads.Learnt κp ap' rp sp) (v : Planned) (answered : rp ≡ Ok v) where
   -- Statement: of a whole list of calls,
   pub record Claim (calls : List Call) : Type 0 where
     -- what the transfers report and every call answers, with the planner's values moved;
-    pub steps : StepsClaim rp.plan rp.prices.moved calls
+    pub steps : StepsClaim v.plan v.prices.moved calls
     -- and "After each call the bound on held is for every board below 2^p, at the position reached, against the same board's held at position 1.", as calls of held tell.
     pub holds : (k : ℕ) (c : Call) → get_elem? calls k ≡ some c
         → (κ₁ κ₂ : Lfts 0) (a₁ : ArgsD held.signature κ₁) (a₂ : ArgsD held.signature κ₂) (r₁ : ResD held.signature κ₁) (r₂ : ResD held.signature κ₂) (s₁ : AtExit held.ended κ₁) (s₂ : AtExit held.ended κ₂)
-        → held_reads.Learnt κ₁ a₁ r₁ s₁ → held_reads.Learnt κ₂ a₂ r₂ s₂ → (b : ℕ) → b < board_count (lists_of rp.plan)
-        → a₁.0 ≡ rp.plan → a₂.0 ≡ rp.plan → a₁.1.0 ≡ c.to → a₂.1.0 ≡ 1 → a₁.1.1.0 ≡ b → a₂.1.1.0 ≡ b
-        → Holds (held_reply r₁) (held_reply r₂)
+        → held_reads.Learnt κ₁ a₁ r₁ s₁ → held_reads.Learnt κ₂ a₂ r₂ s₂ → (b : ℕ) → b < board_count (lists_of v.plan)
+        → a₁.0 ≡ v.plan → a₂.0 ≡ v.plan → a₁.1.0 ≡ c.to → a₂.1.0 ≡ 1 → a₁.1.1.0 ≡ b → a₂.1.1.0 ≡ b
+        → Holds (reply_of r₁) (reply_of r₂)
 
-  runs : Runnable ap'.0.now (power_used ap'.0.now ap'.1.0) rp
-  runs = planned_runs κp ap' rp sp hp zero_refusal
+  runs : Runnable ap'.0.now (power_used ap'.0.now ap'.1.0) v
+  runs = planned_runs κp ap' rp sp hp v answered
 
-  price : rp.prices.moved ≡ moved (lists_of rp.plan)
+  price : v.prices.moved ≡ moved (lists_of v.plan)
   price = ap (λ x. x.moved) runs.prices ∙ (unfold prices_of in refl)
 
-  some_steps : 1 ≤ step_count (lists_of rp.plan)
-  some_steps = rw (sym (steps_length (lists_of rp.plan) runs.sound runs.some)) (unfold steps in omega arith)
+  some_steps : 1 ≤ step_count (lists_of v.plan)
+  some_steps = rw (sym (steps_length (lists_of v.plan) runs.sound runs.some)) (unfold steps in omega arith)
 
-  held_is : (κ : Lfts 0) (a : ArgsD held.signature κ) (r : ResD held.signature κ) (s : AtExit held.ended κ) → held_reads.Learnt κ a r s → (at b : ℕ) → at ≤ step_count (lists_of rp.plan) → b < board_count (lists_of rp.plan)
-      → a.0 ≡ rp.plan → a.1.0 ≡ at → a.1.1.0 ≡ b → held_reply r ≡ gives (Held.held (plan_grid rp.plan) at b)
-  held_is κ a r s h at b l k e p f = h ∙ ap₂ (λ x y. holding x y a.1.1.0) e p ∙ ap (holding rp.plan at) f ∙ sym (held_given rp.plan at b runs.passed l k)
+  held_is : (κ : Lfts 0) (a : ArgsD held.signature κ) (r : ResD held.signature κ) (s : AtExit held.ended κ) → held_reads.Learnt κ a r s → (at b : ℕ) → at ≤ step_count (lists_of v.plan) → b < board_count (lists_of v.plan)
+      → a.0 ≡ v.plan → a.1.0 ≡ at → a.1.1.0 ≡ b → reply_of r ≡ gives (Held.held (plan_grid v.plan) at b)
+  held_is κ a r s h at b l k e p f = h ∙ ap₂ (λ x y. holding x y a.1.1.0) e p ∙ ap (holding v.plan at) f ∙ sym (held_given v.plan at b runs.passed l k)
 
-  inside : {l : List Call} → Calls rp.plan l → reached l ≤ step_count (lists_of rp.plan)
-  inside c = let i = listed c in rw (← i.there) (claim_within rp.plan runs.sound runs.some i.calls)
+  inside : {l : List Call} → Calls v.plan l → reached l ≤ step_count (lists_of v.plan)
+  inside c = let i = listed c in rw (← i.there) (claim_within v.plan runs.sound runs.some i.calls)
 
   -- the position that a call leaves
   record After (c : Call) : Type 0 where
-    within : c.to ≤ step_count (lists_of rp.plan)
-    bound : (b : ℕ) → b < board_count (lists_of rp.plan) → Held.held (plan_grid rp.plan) c.to b ≤ Held.held (plan_grid rp.plan) 1 b
+    within : c.to ≤ step_count (lists_of v.plan)
+    bound : (b : ℕ) → b < board_count (lists_of v.plan) → Held.held (plan_grid v.plan) c.to b ≤ Held.held (plan_grid v.plan) 1 b
 
-  after : {l : List Call} → Calls rp.plan l → (k : ℕ) (c : Call) → get_elem? l k ≡ some c → After c
+  after : {l : List Call} → Calls v.plan l → (k : ℕ) (c : Call) → get_elem? l k ≡ some c → After c
   after = every After made
     where
-      made : (l : List Call) → Calls rp.plan l → (κs : Lfts 3) (a : ArgsD signature κs) (r : ResD signature κs) (s : AtExit ended κs) → reads.Learnt κs a r s → a.0 ≡ rp.plan → a.1.1.1.0.now ≡ reached l → After (call_of κs a r s)
+      made : (l : List Call) → Calls v.plan l → (κs : Lfts 3) (a : ArgsD signature κs) (r : ResD signature κs) (s : AtExit ended κs) → reads.Learnt κs a r s → a.0 ≡ v.plan → a.1.1.1.0.now ≡ reached l → After (call_of κs a r s)
       made l c κs a r s h e p =
           let m = one_more c κs a r s h e p in
           let i = listed m in
           let t : reached (call_of κs a r s ∷ l) ≡ s.1.1.1.0.now = (unfold reached in refl) in
           record {
             within = rw (← t) (inside m);
-            bound = λ b k. rw (← t, ← i.there) (claim_held rp.plan runs.sound runs.some i.calls b k);
+            bound = λ b k. rw (← t, ← i.there) (claim_held v.plan runs.sound runs.some i.calls b k);
           }
 
   -- Statement: so of every list of calls.
-  pub demand : {calls : List Call} → Calls rp.plan calls → Claim calls
+  pub demand : {calls : List Call} → Calls v.plan calls → Claim calls
   demand {calls} c =
       let i = listed c in
       record {
         steps = record {
           within = inside c;
-          at_most = rw (← i.total, price) (claim_moved rp.plan runs.sound runs.some i.calls);
-          exactly = λ e. sym i.total ∙ claim_all rp.plan runs.sound runs.some i.calls (i.there ∙ e) ∙ sym price;
-          each = every (Answered rp.plan) (λ l b κs a r s h e p.
+          at_most = rw (← i.total, price) (claim_moved v.plan runs.sound runs.some i.calls);
+          exactly = λ e. sym i.total ∙ claim_all v.plan runs.sound runs.some i.calls (i.there ∙ e) ∙ sym price;
+          each = every (Answered v.plan) (λ l b κs a r s h e p.
               let at = a.1.1.1.0.now in
-              answered_by rp.plan runs.sound runs.some a.1.0.now a.1.1.0.now at (rw p (inside b)) (step_refusal rp.plan (length a.1.0.now) (length a.1.1.0.now) at) refl (told r) s.1.1.0.now s.1.1.1.0.now
+              answered_by v.plan runs.sound runs.some a.1.0.now a.1.1.0.now at (rw p (inside b)) (step_refusal v.plan (length a.1.0.now) (length a.1.1.0.now) at) refl (told_by r) s.1.1.0.now s.1.1.1.0.now
               (does κs a r s h ∙ ap (λ x. stepping x a.1.0.now a.1.1.0.now at) e ∙ (unfold stepping in refl))) c;
         };
         holds = λ k x g κ₁ κ₂ a₁ a₂ r₁ r₂ s₁ s₂ h₁ h₂ b l p₁ p₂ e₁ e₂ f₁ f₂. record {
-          here = Held.held (plan_grid rp.plan) x.to b;
-          there = Held.held (plan_grid rp.plan) 1 b;
+          here = Held.held (plan_grid v.plan) x.to b;
+          there = Held.held (plan_grid v.plan) 1 b;
           gives_here = held_is κ₁ a₁ r₁ s₁ h₁ x.to b (after c k x g).within l p₁ e₁ f₁;
           gives_there = held_is κ₂ a₂ r₂ s₂ h₂ 1 b some_steps l p₂ e₂ f₂;
           at_most = (after c k x g).bound b l;

@@ -13,6 +13,7 @@ use contract.Lifetimes.{Lfts}
 use borrow.Fn.World.{ArgsD, ResD}
 use denote.Triple.Clauses.{AtExit}
 use Rattle.cube_spec.specs.Boxes.{pick, table, position}
+use Rattle.cube_spec.specs.Refusals.{refused_by}
 use Rattle.cube_spec.specs.Choices.{cells, total, totals, full_mask}
 use Rattle.plan_spec.specs.Plans.{board_count, step_count, lists_of}
 use Rattle.plan_spec.specs.Accepted.{Accepted}
@@ -22,7 +23,7 @@ use Rattle.rack_spec.specs.Grids.{Grid, grid_of, mask_of, lead, box, global}
 use Rattle.rack_spec.specs.Finding.{plan_grid, summed_in}
 use Rattle.rack_spec.specs.Steps.{TreeStep, expand, transfer, finish, steps, finishes_mask, times_finished}
 use Rattle.rack_spec.specs.Held.{finished_at, finished_by}
-use Rattle.rack_spec.specs.Answers.{Told, finishes, done, told, telling, telling_or, told_at}
+use Rattle.rack_spec.specs.Answers.{Told, finishes, done, told_by, telling, telling_or, told_at}
 use Rattle.cube_spec.proofs.Sums.{by}
 use Rattle.plan_spec.proofs.Accepting.{accepted}
 use Rattle.rack_spec.proofs.Claim.{some_below, none_past}
@@ -46,8 +47,8 @@ use Rattle.run_gather.specs.contracts.copying.gather as gather
 use Rattle.run_gather.proofs.copying.gather.Reads as gather_reads
 use Rattle.run_view.specs.contracts.viewing.view as view
 use Rattle.run_view.proofs.viewing.view.Reads as view_reads
-use Rattle.run_view.specs.contracts.viewing.view_refusal as refusing
-use Rattle.run_view.proofs.viewing.view_refusal.Reads as refusal_reads
+use Rattle.run_view.specs.contracts.viewing.check_view as refusing
+use Rattle.run_view.proofs.viewing.check_view.Reads as refusal_reads
 use Rattle.run_step.specs.contracts.stepping.step.{signature, ended}
 use Rattle.run_step.proofs.stepping.step.Reads as reads
 
@@ -56,7 +57,7 @@ pub data Run (q : Plan) (array work₀ : List ℤ) : ℕ → List ℤ → List T
   start : Run q array work₀ 0 work₀ []
   one_more : {at : ℕ} {w : List ℤ} {l : List Told} → Run q array work₀ at w l → (κs : Lfts 3) (a : ArgsD signature κs) (r : ResD signature κs) (s : AtExit ended κs)
       → reads.Learnt κs a r s → a.0 ≡ q → a.1.0.now ≡ array → a.1.1.0.now ≡ w → a.1.1.1.0.now ≡ at
-      → Run q array work₀ s.1.1.1.0.now s.1.1.0.now (told r ∷ l)
+      → Run q array work₀ s.1.1.1.0.now s.1.1.0.now (told_by r ∷ l)
 
 -- ---- one call more
 
@@ -169,9 +170,9 @@ module _ (q : Plan) (array work₀ : List ℤ) (begins : Begins q array work₀)
   run_reached (one_more {at} {w} {l} before κs a r s h e f v p) =
       let k = run_reached before in
       let n : length w ≡ length work₀ = ap length k.there ∙ ran_length g (lawful q ok) axes_some array (take at (steps g)) work₀ in
-      more at w l k (told r) s.1.1.0.now s.1.1.1.0.now (goes κs a r s h e f v p ∙ goes_on w at n k.within)
+      more at w l k (told_by r) s.1.1.0.now s.1.1.1.0.now (goes κs a r s h e f v p ∙ goes_on w at n k.within)
     where
-      goes : (κs : Lfts 3) (a : ArgsD signature κs) (r : ResD signature κs) (s : AtExit ended κs) → reads.Learnt κs a r s → a.0 ≡ q → {w : List ℤ} {at : ℕ} → a.1.0.now ≡ array → a.1.1.0.now ≡ w → a.1.1.1.0.now ≡ at → outcome (told r) s.1.1.0.now s.1.1.1.0.now ≡ stepping q array w at
+      goes : (κs : Lfts 3) (a : ArgsD signature κs) (r : ResD signature κs) (s : AtExit ended κs) → reads.Learnt κs a r s → a.0 ≡ q → {w : List ℤ} {at : ℕ} → a.1.0.now ≡ array → a.1.1.0.now ≡ w → a.1.1.1.0.now ≡ at → outcome (told_by r) s.1.1.0.now s.1.1.1.0.now ≡ stepping q array w at
       goes κs a r s h e f v p = does κs a r s h ∙ ap₂ (λ x y. stepping x y a.1.1.0.now a.1.1.1.0.now) e f ∙ ap₂ (λ x y. stepping q array x y) v p
 
   whole : (l : List TreeStep) (n : ℕ) → n ≡ length l → take n l ≡ l
@@ -225,7 +226,7 @@ module _ (q : Plan) (array work₀ : List ℤ) (begins : Begins q array work₀)
 
     -- Statement: what gather gives, no refusal and the exact totals of the choice.
     pub gathered_run : (κs : Lfts 2) (a : ArgsD gather.signature κs) (r : ResD gather.signature κs) (s : AtExit gather.ended κs) → gather_reads.Learnt κs a r s → a.0 ≡ q → a.1.0.now ≡ w → a.1.1.0 ≡ at → length a.1.1.1.0.now ≡ cells (lists_of q).lengths mask
-        → (r ≡ 0) × (s.1.1.1.0.now ≡ totals (lists_of q).lengths (read array) mask)
+        → (refused_by r ≡ 0) × (s.1.1.1.0.now ≡ totals (lists_of q).lengths (read array) mask)
     gathered_run κs a r s h e v p n =
         let old = a.1.1.1.0.now in
         let f = name.there in
@@ -242,7 +243,7 @@ module _ (q : Plan) (array work₀ : List ℤ) (begins : Begins q array work₀)
         )
 
     -- Statement: no view of a board of the rack is refused.
-    pub viewed_granted : (κs : Lfts 1) (a : ArgsD refusing.signature κs) (r : ResD refusing.signature κs) (s : AtExit refusing.ended κs) → refusal_reads.Learnt κs a r s → a.0 ≡ q → a.1.0.now ≡ w → a.1.1.0 ≡ at → a.1.1.1.0 < board_count (lists_of q) → r ≡ 0
+    pub viewed_granted : (κs : Lfts 1) (a : ArgsD refusing.signature κs) (r : ResD refusing.signature κs) (s : AtExit refusing.ended κs) → refusal_reads.Learnt κs a r s → a.0 ≡ q → a.1.0.now ≡ w → a.1.1.0 ≡ at → a.1.1.1.0 < board_count (lists_of q) → refused_by r ≡ 0
     viewed_granted κs a r s h e v p n =
         h
         ∙ ap₂ (λ q x. view_refusal q (length x) a.1.1.0 a.1.1.1.0) e v
