@@ -23,6 +23,15 @@ enum Found {
     Done,
 }
 
+// A place of the search: a choice that keeps all axes from place d on, which have `rest` labellings, and those before d that it keeps have n.
+#[derive(Clone, Copy)]
+struct Place {
+    choice: Choice,
+    d: usize,
+    n: u64,
+    rest: u64,
+}
+
 // The transfer at a position among those of a choice whose last summed axis is at place d.
 fn sending(plan: Plan, choice: Choice, d: usize, at: u64) -> Transfer
     requires { Sending plan choice.mask d at }
@@ -41,56 +50,51 @@ fn sending(plan: Plan, choice: Choice, d: usize, at: u64) -> Transfer
     }
 }
 
-// The step at a position of the walk over the children of a choice from place d on, taken from right to left: the later children by the walk over the axes after d,
-// then the transfers of the child that sums out the axis at d, then its visit. The axes before d that the choice keeps have n labellings, those from d on `rest`.
+// The step at a position of the walk over the children of a choice from a place on, taken from right to left: the later children by the walk over the axes after it,
+// then the transfers of the child that sums out the axis there, then its visit.
 #[cycle(visit_walk)]
-fn walk(
-    plan: &Plan,
-    tallies: &Tallies,
-    choice: Choice,
-    d: usize,
-    n: u64,
-    rest: u64,
-    at: u64,
-) -> Found
-    requires { Searching plan.now tallies.now choice.mask d n rest }
-    ensures { FoundInWalk plan.now choice.mask d at result }
+fn walk(plan: &Plan, tallies: &Tallies, place: Place, at: u64) -> Found
+    requires { Searching plan.now tallies.now place.choice.mask place.d place.n place.rest }
+    ensures { FoundInWalk plan.now place.choice.mask place.d at result }
 {
     let axes = plan.axes as usize;
+    let Place { choice, d, n, rest } = place;
     if d == axes {
         return Found::Done;
     }
     let axis = plan.order[d];
     let k = plan.exponents[axis as usize];
-    let more = n << k;
-    let after = rest >> k;
-    let later = count_with(tallies.places[d + 1].sent, axes - (d + 1), more);
+    let next = Place {
+        choice,
+        d: d + 1,
+        n: n << k,
+        rest: rest >> k,
+    };
+    let later = count_with(tallies.places[next.d].sent, axes - next.d, next.n);
     if at < later {
-        return walk(plan, tallies, choice, d + 1, more, after, at);
+        return walk(plan, tallies, next, at);
     }
     let child = choice.without(axis);
-    let sends = (more - n) * after;
+    let sends = (next.n - n) * next.rest;
     if at - later < sends {
         return Found::Send(child, d, at - later);
     }
-    visit(plan, tallies, child, d + 1, n, after, at - later - sends)
+    let below = Place {
+        choice: child,
+        n,
+        ..next
+    };
+    visit(plan, tallies, below, at - later - sends)
 }
 
-// The step at a position of the visit of a choice whose children begin at place d: it is expanded if it has any, and finished after them.
+// The step at a position of the visit of a choice whose children begin at a place: it is expanded if it has any, and finished after them.
 #[cycle(visit_walk)]
-fn visit(
-    plan: &Plan,
-    tallies: &Tallies,
-    choice: Choice,
-    d: usize,
-    n: u64,
-    rest: u64,
-    at: u64,
-) -> Found
-    requires { Searching plan.now tallies.now choice.mask d n rest }
-    ensures { FoundInVisit plan.now choice.mask d at result }
+fn visit(plan: &Plan, tallies: &Tallies, place: Place, at: u64) -> Found
+    requires { Searching plan.now tallies.now place.choice.mask place.d place.n place.rest }
+    ensures { FoundInVisit plan.now place.choice.mask place.d at result }
 {
     let axes = plan.axes as usize;
+    let Place { choice, d, n, .. } = place;
     if d == axes {
         return if at == 0 {
             Found::Finish(choice)
@@ -103,7 +107,7 @@ fn visit(
     }
     let below = count_with(tallies.places[d].sent, axes - d, n);
     if at - 1 < below {
-        return walk(plan, tallies, choice, d, n, rest, at - 1);
+        return walk(plan, tallies, place, at - 1);
     }
     if at - 1 == below {
         return Found::Finish(choice);
@@ -133,8 +137,13 @@ pub fn step_by(plan: Plan, tallies: Tallies, at: u64) -> Step
     if at == 0 {
         return Step::Expand(root);
     }
-    let rest = u64::from(tallies.places[0].span);
-    step_of(plan, walk(&plan, &tallies, root, 0, 1, rest, at - 1))
+    let place = Place {
+        choice: root,
+        d: 0,
+        n: 1,
+        rest: u64::from(tallies.places[0].span),
+    };
+    step_of(plan, walk(&plan, &tallies, place, at - 1))
 }
 
 // The step at one position.

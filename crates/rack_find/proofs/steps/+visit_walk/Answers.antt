@@ -15,7 +15,7 @@ pub visit-count_with-below-requires : goal.visit-count_with-below-requires
 visit-count_with-below-requires t c =
     let z = c.requires in
     let p = places z in
-    (sent_few z c.args.d z.walking.within, omega arith, labellings_few z)
+    (sent_few z c.args.place.d z.walking.within, omega arith, labellings_few z)
 
 pub visit-returns-then-at-below : goal.visit-returns-then-at-below
 visit-returns-then-at-below t c =
@@ -39,18 +39,18 @@ walk-returns-then-d-axes t c = (none_walked c.requires c.if-d-axes.true c.args.a
 pub walk-bounds-plan-axis : goal.walk-bounds-plan-axis
 walk-bounds-plan-axis t c = axis_fits c.requires (left c.requires c.if-d-axes.false)
 
-pub walk-overflow_shl-more : goal.walk-overflow_shl-more
-walk-overflow_shl-more t c = let l = k_small c.requires (left c.requires c.if-d-axes.false) in omega arith
+pub walk-overflow_shl-next : goal.walk-overflow_shl-next
+walk-overflow_shl-next t c = let l = k_small c.requires (left c.requires c.if-d-axes.false) in omega arith
 
-pub walk-overflow_shr-after : goal.walk-overflow_shr-after
-walk-overflow_shr-after t c = let l = k_small c.requires (left c.requires c.if-d-axes.false) in omega arith
+pub walk-overflow_shr-next : goal.walk-overflow_shr-next
+walk-overflow_shr-next t c = let l = k_small c.requires (left c.requires c.if-d-axes.false) in omega arith
 
 pub walk-count_with-later-requires : goal.walk-count_with-later-requires
 walk-count_with-later-requires t c =
     let z = c.requires in
     let h = left z c.if-d-axes.false in
     let p = places z in
-    (sent_few z (c.args.d + 1) (omega arith), omega arith, more_few z h)
+    (sent_few z (c.args.place.d + 1) (omega arith), omega arith, more_few z h)
 
 pub walk-walk-requires : goal.walk-walk-requires
 walk-walk-requires t c =

@@ -4,7 +4,7 @@ use Rattle.std.proofs.Common.{◌+◌, ◌-◌}
 use Rattle.rack_find.proofs.steps.+visit_walk.Given as goal
 
 abbrev pub decreases-visit : goal.decreases-visit
-decreases-visit l = (l.plan.now.axes - l.d) + (l.plan.now.axes - l.d) + 1
+decreases-visit l = (l.plan.now.axes - l.place.d) + (l.plan.now.axes - l.place.d) + 1
 
 abbrev pub decreases-walk : goal.decreases-walk
-decreases-walk l = (l.plan.now.axes - l.d) + (l.plan.now.axes - l.d)
+decreases-walk l = (l.plan.now.axes - l.place.d) + (l.plan.now.axes - l.place.d)

@@ -13,7 +13,7 @@ returns-then-at-eq0 c =
 pub walk-requires : goal.walk-requires
 walk-requires c =
     let ok = passed_accepted c.args.plan (search rules) (search rules) (search rules) c.requires.0 in
-    root_searching ok c.requires.0 c.requires.1 c.full-root.ensures c.from-rest.ensures
+    root_searching ok c.requires.0 c.requires.1 c.full-root.ensures c.from.ensures
 
 pub step_of-requires : goal.step_of-requires
 step_of-requires c = c.walk.ensures.1
