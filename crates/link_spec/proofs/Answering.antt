@@ -1,13 +1,13 @@
 -- What the search answers, in the code's terms.
-use Prim.Native.Nat.{ℕ, ◌+◌, ◌-◌, ◌*◌, ◌≤◌, ◌<◌, min}
+use Prim.Native.Nat.{ℕ, ◌-◌, ◌*◌, ◌≤◌, ◌<◌, min}
 use mathlib.Core.Path.{◌≡◌, ◌∙◌, ap, refl}
 use mathlib.Core.Bool.{true, false}
-use mathlib.Core.List.{List, [], ◌∷◌, ◌++◌}
+use mathlib.Core.List.{List, [], ◌∷◌}
 use native.Mathlib.Omega.{arith}
 use native.Mathlib.Nat.{pos_of_ne-zero}
-use native.Mathlib.Numerals.{add-one}
-use lib.ListN.{length, get_or, take, length-take}
-use lib.Seq.{take-suc}
+use lib.ListN.{length}
+use Rattle.std.specs.Option.{unwrap_or}
+use Rattle.std.specs.List.{fold, reduce}
 use Rattle.cube_spec.specs.Limits.{axis_limit}
 use Rattle.cube_spec.specs.Boxes.{pick}
 use Rattle.cube_spec.specs.Checks.{gives, refuses}
@@ -26,23 +26,21 @@ use Rattle.link_spec.specs.Trying.{tried, Searchable}
 use Rattle.link_spec.proofs.Distance.{floor_answer}
 use Rattle.link_spec.proofs.Deciding.{refuses_planning, refuses_budget, refuses_links, refuses_nothing, accepted}
 
--- ---- the smallest link weight, one after the other
+-- ---- the smallest link weight, as the library finds it
 
-smallest_snoc : (l : List ℕ) (x : ℕ) → 0 < length l → smallest (l ++ (x ∷ [])) ≡ min (smallest l) x
+smallest_fold : (w : ℕ) (l : List ℕ) → fold min w l ≡ smallest (w ∷ l)
 unfolding smallest
-smallest_snoc [] x h = absurd (omega arith)
-smallest_snoc (w ∷ []) x h = refl
-smallest_snoc (w ∷ v ∷ l) x h =
-    let i = smallest_snoc (v ∷ l) x (omega arith) in
-    ap (λ (y : ℕ). min w y) i ∙ omega arith
+smallest_fold w [] = refl
+smallest_fold w (v ∷ l) = smallest_fold (min w v) l ∙ more l
+  where
+    more : (l : List ℕ) → smallest (min w v ∷ l) ≡ min w (smallest (v ∷ l))
+    more [] = refl
+    more (u ∷ l) = omega arith
 
-pub smallest_one : (l : List ℕ) → 0 < length l → get_or l 0 0 ≡ smallest (take 1 l)
+pub smallest_is : (l : List ℕ) → unwrap_or (reduce min l) 0 ≡ smallest l
 unfolding smallest
-smallest_one [] h = absurd (omega arith)
-smallest_one (w ∷ l) h = refl
-
-pub smallest_next : (l : List ℕ) (i : ℕ) → 1 ≤ i → i < length l → smallest (take (i + 1) l) ≡ min (smallest (take i l)) (get_or l i 0)
-smallest_next l i h k = rw (add-one i, take-suc l i 0 k) (smallest_snoc (take i l) (get_or l i 0) (let q = length-take i l in omega arith))
+smallest_is [] = refl
+smallest_is (w ∷ l) = smallest_fold w l
 
 -- ---- the checks
 
