@@ -11,6 +11,9 @@ use lib.Seq.{sets, take_all}
 use contract.Lifetimes.{Lfts}
 use borrow.Fn.World.{ArgsD, ResD}
 use denote.Triple.Clauses.{AtExit}
+use Rattle.std.specs.Prelude.{Result, Ok, Err, IfOk}
+use Rattle.cube_spec.specs.Refusals.{reply_of}
+use Rattle.cube_spec.specs.declared.refusals.Refusal.{Refusal}
 use Rattle.cube_spec.proofs.Stores.{stored_first}
 use Rattle.cube_spec.proofs.Sums.{by}
 use Rattle.plan_spec.specs.Plans.{PlanLists}
@@ -124,7 +127,7 @@ lines_next tape k = sym (joined_next (printed_lines tape) k)
 pub line_there : (tape : List ℕ) (k : ℕ) (out out' : List ℕ) (r : ℕ) → r ≡ length (line_at tape k) → r ≤ length out' → out' ≡ sets out 0 (line_at tape k) → take r out' ≡ line_at tape k
 line_there tape k out out' r e h p = stored_first out out' (line_at tape k) r e h p
 
-stands_as : (t t' : List ℕ) (j j' : Planned) (k k' : ℕ) (p p' w w' : List ℤ) (at at' : ℕ) → t ≡ t' → j ≡ j' → k ≡ k' → p ≡ p' → w ≡ w' → at ≡ at' → Stands t' j' k' p' w' at' → Stands t j k p w at
+stands_as : (t t' : List ℕ) (j j' : Result Planned Refusal) (k k' : ℕ) (p p' w w' : List ℤ) (at at' : ℕ) → t ≡ t' → j ≡ j' → k ≡ k' → p ≡ p' → w ≡ w' → at ≡ at' → Stands t' j' k' p' w' at' → Stands t j k p w at
 stands_as t t' j j' k k' p p' w w' at at' a b c d e f s = rw (a, b, c, d, e, f) s
 
 -- ---- runs
@@ -132,7 +135,7 @@ stands_as t t' j j' k k' p p' w w' at at' a b c d e f s = rw (a, b, c, d, e, f) 
 -- Statement: calls of next_line on one tape, one after the other. Of each call a is its arguments (tape, judged, handed, points, work, position, cells, out), r its answer and s the arguments at
 -- exit; where what it asks is met, its callers learn what it ensures. `handed` is the number of calls before, and the work area and the position are as the call before left them; the
 -- cells and the buffer that it is lent hold anything. The run's indices: work area, position, the answers, the newest first, and the bytes handed out, after an answer r the first r of the buffer.
-pub data Run (tape : List ℕ) (judged : Planned) (points work₀ : List ℤ) : List ℤ → ℕ → List ℕ → List ℕ → Type 0 where
+pub data Run (tape : List ℕ) (judged : Result Planned Refusal) (points work₀ : List ℤ) : List ℤ → ℕ → List ℕ → List ℕ → Type 0 where
   start : Run tape judged points work₀ work₀ 0 [] []
   one_more : {work : List ℤ} {at : ℕ} {answers bytes : List ℕ} → Run tape judged points work₀ work at answers bytes
       → (κs : Lfts 6) (a : ArgsD signature κs) (r : ResD signature κs) (s : AtExit ended κs) → (reads.Asked κs a → reads.Learnt κs a r s)
@@ -141,7 +144,7 @@ pub data Run (tape : List ℕ) (judged : Planned) (points work₀ : List ℤ) : 
       → Run tape judged points work₀ s.1.1.1.1.0.now s.1.1.1.1.1.0.now (r ∷ answers) (bytes ++ take r s.1.1.1.1.1.1.1.0.now)
 
 -- For every tape, one that is refused included:
-module _ (tape : List ℕ) (judged : Planned) (points work₀ : List ℤ) (from : Begins tape judged points work₀) where
+module _ (tape : List ℕ) (judged : Result Planned Refusal) (points work₀ : List ℤ) (from : Begins tape judged points work₀) where
   -- each answer is the length of its line
   abbrev Lengths : List ℕ → Type 0
   Lengths [] = Unit
@@ -217,6 +220,10 @@ module _ (tape : List ℕ) (judged : Planned) (points work₀ : List ℤ) (from 
     pub next_handed : (r : ResD signature κs) (s : AtExit ended κs) → reads.Learnt κs a r s → take r s.1.1.1.1.1.1.1.0.now ≡ line_at tape (length answers)
     next_handed r s m = line_there a.0.now a.1.1.0 _ _ r m.0 m.1 m.2 ∙ ap₂ line_at t k
 
+points_of : {P Q : Type 0} (judged : Result Planned Refusal) → (Q → P) → IfOk judged (λ planned. Q) → IfOk judged (λ planned. P)
+points_of (Ok planned) f q = f q
+points_of (Err refusal) f q = tt
+
 -- Statement: what a run starts from is what the program's calls of judge, load and bounded leave, by what their callers learn: for every tape, over a work area of any contents.
 pub begun : (κj : Lfts 1) (aj : ArgsD judge.signature κj) (rj : ResD judge.signature κj) (sj : AtExit judge.ended κj) → judge-reads.Learnt κj aj rj sj
     → (κl : Lfts 2) (al : ArgsD load.signature κl) (rl : ResD load.signature κl) (sl : AtExit load.ended κl) → (load-reads.Asked κl al → load-reads.Learnt κl al rl sl)
@@ -224,10 +231,10 @@ pub begun : (κj : Lfts 1) (aj : ArgsD judge.signature κj) (rj : ResD judge.sig
     → (κb : Lfts 1) (ab : ArgsD bounded.signature κb) (rb : ResD bounded.signature κb) (sb : AtExit bounded.ended κb) → bounded-reads.Learnt κb ab rb sb → ab.0.now ≡ take rl sl.1.1.0.now
     → (work₀ : List ℤ) → length work₀ ≡ 8192 → Begins aj.0.now rj ab.0.now work₀
 begun κj aj rj sj hj κl al rl sl hl t j n κb ab rb sb hb p work₀ room =
-    let m = hl (j ∙ hj ∙ ap judging (sym t), n) in
+    let m = hl (ap reply_of j ∙ hj ∙ ap judging (sym t), n) in
     record {
       judgement = hj;
-      loaded = λ z. p ∙ (m.1 (ap (λ (x : Planned). x.refusal) j ∙ z)).0 ∙ ap (λ x. (campaign_of x).points) t;
+      loaded = points_of rj (λ q. p ∙ q.0 ∙ ap (λ x. (campaign_of x).points) t) (rw j at m.1);
       small = hb;
       room = room;
     }

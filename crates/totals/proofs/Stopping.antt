@@ -1,20 +1,19 @@
 -- Where the program stops: after the last line, or at a write that fails.
 use Prim.Native.Nat.{ℕ, ◌≤◌, ◌<◌}
 use mathlib.Core.Path.{◌≡◌, ◌∙◌, ap}
-use mathlib.Core.Bool.{true, false}
 use mathlib.Core.List.{List}
 use native.Mathlib.Omega.{arith}
 use borrow.Author.Tests.{ltb-true, ltb-false}
 use lib.Dec.{ltb}
 use lib.ListN.{length, take}
 use lib.Seq.{take_all}
+use Rattle.std.specs.Prelude.{Result, Ok, Err}
 use Rattle.cube_spec.specs.Limits.{tape_limit}
 use Rattle.cube_spec.proofs.Sums.{by}
 use Rattle.report_spec.specs.Printed.{printed_lines, line_at, joined, printed}
 use Rattle.report_spec.proofs.Beginnings.{lines_begun}
 use Rattle.totals_line.proofs.Lined.{line_some}
-use Rattle.cube_spec.proofs.Naturals.{impossible}
-use Rattle.totals.specs.declared.types.Written.{Written}
+use Rattle.totals.specs.declared.types.Stopped.{Stopped}
 use Rattle.totals.specs.Endings.{Ends, ReadFrom}
 use Rattle.totals.proofs.Handed.{line_filled}
 
@@ -25,25 +24,25 @@ none_left tape k n e z = by (ltb k (length (printed_lines tape)))
     (λ t. ltb-false k (length (printed_lines tape)) t)
 
 -- all lines were taken
-pub ends_whole : (tape : List ℕ) (k n : ℕ) → k ≤ length (printed_lines tape) → n ≡ length (line_at tape k) → n ≡ 0 → Ends tape (record { lines = k; whole = true })
-ends_whole tape k n h e z =
-    let m = none_left tape k n e z in
-    record { most = h; all = λ t. omega arith; cut = λ t. impossible (cc) }
+pub ends_whole : (tape : List ℕ) (k n : ℕ) → k ≤ length (printed_lines tape) → n ≡ length (line_at tape k) → n ≡ 0 → Ends tape (Ok k)
+ends_whole tape k n h e z = let m = none_left tape k n e z in omega arith
 
 -- the line that was not taken is left
-pub ends_cut : (tape : List ℕ) (k n : ℕ) → n ≡ length (line_at tape k) → (n ≡ 0 → ⊥) → Ends tape (record { lines = k; whole = false })
-ends_cut tape k n e h =
-    let l = line_some tape k n e h in
-    record { most = omega arith; all = λ t. impossible (cc); cut = λ t. l }
+pub ends_cut : (tape : List ℕ) (k n : ℕ) → n ≡ length (line_at tape k) → (n ≡ 0 → ⊥) → Ends tape (Err (record { lines = k }))
+ends_cut tape k n e h = line_some tape k n e h
 
 -- THE INPUT IN PLACE OF WHAT WAS READ OF IT: where there is room for more bytes than a tape may have, the report is that of the whole input.
-pub ends_input : (space input : List ℕ) (n : ℕ) (w : Written) → tape_limit < length space → ReadFrom input space n → Ends (take n space) w → Ends input w
-ends_input space input n w h e s =
-    let same : printed_lines (take n space) ≡ printed_lines input = ap printed_lines e ∙ lines_begun (length space) input h in
-    let many = ap length same in
-    record { most = (let m = s.most in omega arith); all = λ t. s.all t ∙ many; cut = λ t. let m = s.cut t in omega arith }
+pub ends_input : (space input : List ℕ) (n : ℕ) (w : Result ℕ Stopped) → tape_limit < length space → ReadFrom input space n → Ends (take n space) w → Ends input w
+ends_input space input n w h e s = ends w s
+  where
+    many : length (printed_lines (take n space)) ≡ length (printed_lines input)
+    many = ap (λ t. length (printed_lines t)) e ∙ ap length (lines_begun (length space) input h)
+
+    ends : (w : Result ℕ Stopped) → Ends (take n space) w → Ends input w
+    ends (Ok lines) s = s ∙ many
+    ends (Err stopped) s = let m = many in omega arith
 
 -- WHERE NO WRITE FAILED, THE LINES TAKEN ARE THE PRINTED OUTPUT, one after the other, byte for byte.
-pub whole_printed : (tape : List ℕ) (w : Written) → Ends tape w → w.whole ≡ true → joined (take w.lines (printed_lines tape)) ≡ printed tape
+pub whole_printed : (tape : List ℕ) (lines : ℕ) → Ends tape (Ok lines) → joined (take lines (printed_lines tape)) ≡ printed tape
 unfolding printed
-whole_printed tape w s t = let n = s.all t in ap joined (take_all w.lines (printed_lines tape) (omega arith))
+whole_printed tape lines n = ap joined (take_all lines (printed_lines tape) (omega arith))

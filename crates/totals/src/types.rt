@@ -1,6 +1,5 @@
-// How a report was written: how many of its lines were taken, one after the other from the first, and whether no write failed, by what `write` answered.
-#[derive(Clone, Copy)]
-pub struct Written {
+// A write failed after so many lines of a report were taken, one after the other from the first, by what `write` answered.
+#[derive(Clone, Copy, Debug, PartialEq, Eq)]
+pub struct Stopped {
     pub lines: u64,
-    pub whole: bool,
 }

@@ -1,6 +1,7 @@
 // The report, written line by line.
-ghost use Rattle.std.specs.Prelude.{◌≡◌, ◌≤◌, ◌<◌, length, take};
+ghost use Rattle.std.specs.Prelude.{◌≡◌, ◌≤◌, ◌<◌, length, take, IfOk};
 ghost use Rattle.cube_spec.specs.Limits.{tape_limit};
+ghost use Rattle.cube_spec.specs.Refusals.{reply_of};
 ghost use Rattle.report_spec.specs.Printed.{line_at};
 ghost use Rattle.totals_check.specs.Judging.{judging};
 ghost use Rattle.totals_line.specs.Standing.{campaign_of};
@@ -8,7 +9,8 @@ ghost use Rattle.totals_group.specs.Grouped.{Small};
 ghost use Rattle.totals.specs.Endings.{Ends, EndsAfter};
 
 use crate::loading::{bounded, load};
-use crate::types::Written;
+use crate::types::Stopped;
+use cube_spec::refusals::Refusal;
 use plan_spec::types::Planned;
 use totals_check::judging::judge;
 use totals_line::next_line;
@@ -17,19 +19,20 @@ use totals_line::next_line;
 fn write(tape: &[u8], k: u64, out: &[u8], used: usize) -> bool
     requires { (used ≤ length out.now) × (take used out.now ≡ line_at tape.now k) }
 {
-    io::write_all(1, &out[0..used])
+    io::write_all(1, &out[..used])
 }
 
-// Writes line after line, up to the last one or to a write that fails.
+// Writes line after line, up to the last one or to a write that fails; gives how many were taken. The loop ends where no line is left,
+// so its count is its answer and no range.
 fn print_lines(
     tape: &[u8],
-    judged: Planned,
+    judged: Result<Planned, Refusal>,
     points: &[i32],
     work: &mut [i64],
     cells: &mut [i64],
     out: &mut [u8],
-) -> Written
-    requires { (judged ≡ judging tape.now) × (judged.refusal ≡ 0 → points.now ≡ (campaign_of tape.now).points) × Small points.now × (length work.old ≡ 8192) × (length cells.old ≡ 8192) × (length out.old ≡ 172064) }
+) -> Result<u64, Stopped>
+    requires { (reply_of judged ≡ judging tape.now) × IfOk judged (λ planned. points.now ≡ (campaign_of tape.now).points) × Small points.now × (length work.old ≡ 8192) × (length cells.old ≡ 8192) × (length out.old ≡ 172064) }
     ensures { Ends tape.now result }
 {
     let mut lines: u64 = 0;
@@ -37,35 +40,14 @@ fn print_lines(
     loop {
         let used = next_line(tape, judged, lines, points, work, &mut position, cells, out);
         if used == 0 {
-            return Written {
-                lines: lines,
-                whole: true,
-            };
+            return Ok(lines);
         }
         let taken = write(tape, lines, out, used);
         if !taken {
-            return Written {
-                lines: lines,
-                whole: taken,
-            };
+            return Err(Stopped { lines });
         }
         lines += 1;
     }
-}
-
-// From the first n bytes of a space to the report. The space has room for more bytes than a tape may have: of an input that goes on, the bytes that it has no room for do not matter.
-pub fn print(
-    space: &[u8],
-    n: usize,
-    points: &mut [i32],
-    work: &mut [i64],
-    cells: &mut [i64],
-    out: &mut [u8],
-) -> Written
-    requires { (tape_limit < length space.now) × (n ≤ length space.now) × (length points.old ≡ 8192) × (length work.old ≡ 8192) × (length cells.old ≡ 8192) × (length out.old ≡ 172064) }
-    ensures { EndsAfter space.now n result }
-{
-    print_tape(&space[0..n], points, work, cells, out)
 }
 
 // From a tape to its report.
@@ -75,27 +57,29 @@ fn print_tape(
     work: &mut [i64],
     cells: &mut [i64],
     out: &mut [u8],
-) -> Written
+) -> Result<u64, Stopped>
     requires { (length points.old ≡ 8192) × (length work.old ≡ 8192) × (length cells.old ≡ 8192) × (length out.old ≡ 172064) }
     ensures { Ends tape.now result }
 {
     let judged = judge(tape);
     let n = load(tape, judged, points);
-    print_loaded(tape, judged, &points[0..n], work, cells, out)
+    let points = &points[..n];
+    bounded(points);
+    print_lines(tape, judged, points, work, cells, out)
 }
 
-// From a tape whose points are loaded to its report.
-fn print_loaded(
-    tape: &[u8],
-    judged: Planned,
-    points: &[i32],
+// From the first n bytes of a space to the report. The space has room for more bytes than a tape may have: of an input that goes on, the bytes that it has
+// no room for do not matter. The lent slices stay apart, as `main` lends them (docs/PROMISES.md names this function).
+pub fn print(
+    space: &[u8],
+    n: usize,
+    points: &mut [i32],
     work: &mut [i64],
     cells: &mut [i64],
     out: &mut [u8],
-) -> Written
-    requires { (judged ≡ judging tape.now) × (judged.refusal ≡ 0 → points.now ≡ (campaign_of tape.now).points) × (length work.old ≡ 8192) × (length cells.old ≡ 8192) × (length out.old ≡ 172064) }
-    ensures { Ends tape.now result }
+) -> Result<u64, Stopped>
+    requires { (tape_limit < length space.now) × (n ≤ length space.now) × (length points.old ≡ 8192) × (length work.old ≡ 8192) × (length cells.old ≡ 8192) × (length out.old ≡ 172064) }
+    ensures { EndsAfter space.now n result }
 {
-    bounded(points);
-    print_lines(tape, judged, points, work, cells, out)
+    print_tape(&space[..n], points, work, cells, out)
 }

@@ -1,8 +1,7 @@
 -- The cells of a choice fit the slice that the program keeps for them.
-use Prim.Native.Nat.{ℕ, ◌+◌, ◌*◌, ◌-◌, ◌≤◌}
-use mathlib.Core.Path.{◌≡◌, ◌∙◌}
-use mathlib.Core.List.{List}
-use native.Mathlib.Nat.{sub-zero}
+use Prim.Native.Nat.{ℕ, ◌≤◌}
+use mathlib.Core.Path.{◌≡◌, ◌∙◌, sym, ap}
+use mathlib.Core.List.{List, ◌∷◌, ◌++◌}
 use native.Mathlib.Omega.{arith}
 use lib.IntN.{ℤ}
 use lib.ListN.{length, take}
@@ -12,7 +11,11 @@ use Rattle.cube_spec.proofs.Counting.{cells_le}
 use Rattle.plan_spec.specs.Plans.{lists_of}
 use Rattle.plan_spec.specs.Accepted.{Accepted}
 use Rattle.plan_spec.specs.declared.types.Plan.{Plan}
+use Rattle.run_spec.specs.Entries.{gathering}
 use Rattle.run_spec.proofs.Refusing.{countable, counted_plan}
+use Rattle.report_spec.specs.Text.{text, decimal}
+use Rattle.report_spec.specs.Printed.{fields, signeds}
+use Rattle.totals_group.specs.Grouped.{group_text}
 
 module _ (q : Plan) (ok : Accepted q) (mask n : ℕ) (e : n ≡ counted_cells (take q.axes q.lengths) mask) where
   pub count_is : n ≡ cells (lists_of q).lengths mask
@@ -23,8 +26,14 @@ module _ (q : Plan) (ok : Accepted q) (mask n : ℕ) (e : n ≡ counted_cells (t
     unfolding lists_of
     count_fits = let c = count_is in let s = cells_le (take q.axes q.lengths) q.axes mask (countable q ok) in omega arith
 
-    pub part_is : take (n - 0) room ≡ take (cells (lists_of q).lengths mask) room
-    part_is = rw (sub-zero, ← count_is)
+    pub part_is : take n room ≡ take (cells (lists_of q).lengths mask) room
+    part_is = rw (← count_is)
 
-    pub line_fits : (m : ℕ) → 27 + 21 * length room ≤ m → 27 + 21 * length (take (n - 0) room) ≤ m
-    line_fits m k = let f = count_fits in let l = length-take-le n room f in rw (sub-zero, l) (omega arith)
+    pub part_length : n ≡ length (take n room)
+    part_length = sym (length-take-le n room count_fits)
+
+    -- the line of what was gathered
+    pub gathered_line : (work : List ℤ) (at : ℕ) (part : List ℤ) → part ≡ gathering q work at (take n room)
+        → text "group" ++ fields (decimal mask ∷ signeds part) ≡ group_text q work at mask (take (cells (lists_of q).lengths mask) room)
+    unfolding group_text
+    gathered_line work at part g = ap (λ x. text "group" ++ fields (decimal mask ∷ signeds x)) (g ∙ ap (gathering q work at) part_is)

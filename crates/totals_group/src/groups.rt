@@ -14,24 +14,7 @@ use report_line::printing::put_group;
 use run_gather::copying::gather;
 use run_take::take;
 
-// The line of the choice that the position finishes, through a slice of as many cells.
-fn put_gathered(
-    plan: Plan,
-    choice: Choice,
-    work: &[i64],
-    position: u64,
-    cells: &mut [i64],
-    out: &mut [u8],
-) -> usize
-    requires { 27 + 21 * length cells.old ≤ length out.old }
-    ensures { (result ≡ length (group_text plan work.now position choice.mask cells.old)) × (result ≤ length out.new)
-        × (out.new ≡ sets out.old 0 (group_text plan work.now position choice.mask cells.old)) }
-{
-    gather(plan, work, position, cells);
-    put_group(out, choice.mask, cells)
-}
-
-// The same through the start of a slice with room for every choice.
+// The line of the choice that the position finishes. Its cells go through the start of a slice with room for every choice.
 fn put_finished(
     plan: Plan,
     choice: Choice,
@@ -44,12 +27,14 @@ fn put_finished(
     ensures { (result ≡ length (group_text plan work.now position choice.mask (take (Choices.cells (lists_of plan).lengths choice.mask) cells.old))) × (result ≤ length out.new)
         × (out.new ≡ sets out.old 0 (group_text plan work.now position choice.mask (take (Choices.cells (lists_of plan).lengths choice.mask) cells.old))) }
 {
-    let lengths = plan.lengths;
-    let n = choice.cells(lengths, plan.axes) as usize;
-    put_gathered(plan, choice, work, position, &mut cells[0..n], out)
+    let n = choice.cells(&plan.lengths[..plan.axes as usize]) as usize;
+    let part = &mut cells[..n];
+    let _gathered = gather(plan, work, position, part);
+    put_group(out, choice.mask, part)
 }
 
-// Takes steps up to the next finish and puts its line, or nothing where no finish is left.
+// Takes steps up to the next finish and puts its line, or nothing where no finish is left. The lent slices stay apart, and a line of no bytes is no line:
+// docs/PROMISES.md names this function.
 pub fn next_group(
     plan: Plan,
     points: &[i32],

@@ -1,23 +1,25 @@
 -- Which line comes next, and where the report stands after it.
-use Prim.Native.Nat.{ℕ, zero, suc, ◌+◌, ◌*◌, ◌-◌, ◌^◌, ◌%◌, ◌≤◌, ◌<◌}
+use Prim.Native.Nat.{ℕ, ◌+◌, ◌*◌, ◌-◌, ◌^◌, ◌%◌, ◌≤◌, ◌<◌}
 use mathlib.Core.Path.{◌≡◌, sym, ◌∙◌, refl, ap, ap₂}
-use mathlib.Core.List.{List, [], ◌∷◌}
+use mathlib.Core.List.{List, []}
 use native.Mathlib.Omega.{arith}
 use lib.IntN.{ℤ}
 use lib.Pow.{pow_mono}
 use borrow.Author.Tests.{ltb-true, ltb-false}
 use lib.Dec.{ltb}
-use lib.ListN.{length, take, get_or, get_or-eq_default}
+use lib.ListN.{length, get_or, get_or-eq_default}
+use Rattle.std.specs.Prelude.{Result, Ok, Err, IfOk}
+use Rattle.cube_spec.specs.Checks.{gives, refuses}
+use Rattle.cube_spec.specs.Refusals.{number_of, reply_of}
+use Rattle.cube_spec.specs.declared.refusals.Refusal.{Refusal}
 use Rattle.cube_spec.proofs.Sums.{by}
-use Rattle.plan_spec.specs.Plans.{PlanLists, step_count, lists_of, slotted}
+use Rattle.plan_spec.specs.Plans.{PlanLists, lists_of}
 use Rattle.plan_spec.specs.Accepted.{Accepted}
 use Rattle.plan_spec.specs.declared.types.Planned.{Planned}
 use Rattle.plan_spec.specs.declared.types.Plan.{Plan}
 use Rattle.plan_spec.proofs.PricingLaws.{shifted}
-use Rattle.rack_spec.specs.Grids.{Grid, grid_of}
-use Rattle.rack_spec.specs.Finding.{plan_grid}
+use Rattle.rack_spec.specs.Grids.{grid_of}
 use Rattle.rack_spec.specs.Steps.{steps}
-use Rattle.rack_spec.proofs.Tallied.{axes_same}
 use Rattle.run_spec.specs.Memory.{read, ran}
 use Rattle.report_spec.specs.Printed.{plan_for, plan_line, dim_line, group_lines, end_line, refused_line, program_refusal, printed_lines, line_at}
 use Rattle.report_spec.proofs.Groups.{steps_groups}
@@ -36,39 +38,45 @@ grid_axes a = refl
 plan_groups : (a : PlanLists) (array : ℕ → ℤ) → length (group_lines a array (steps (grid_of a))) + 1 ≡ 2 ^ length a.lengths
 plan_groups a array = steps_groups a array (grid_of a) ∙ ap (λ n. 2 ^ n) (grid_axes a)
 
-module _ (tape : List ℕ) (judged : Planned) (k : ℕ) (points work : List ℤ) (at : ℕ) (s : Stands tape judged k points work at) where
+module _ (tape : List ℕ) (judged : Result Planned Refusal) (k : ℕ) (points work : List ℤ) (at : ℕ) (s : Stands tape judged k points work at) where
   -- ---- a tape that is refused
 
-  module _ (h : judged.refusal ≡ 0 → ⊥) where
-    due : program_refusal tape ≡ 0 → ⊥
-    due z = h (Taken.refusal_is tape judged s.judgement ∙ z)
+  module _ (e : Refusal) (h : judged ≡ Err e) where
+    refuses_it : refuses (number_of e) ≡ judging tape
+    refuses_it = rw h at s.judgement
 
-    pub refused_line_is : k ≡ 0 → refused_line judged.refusal ≡ line_at tape k
-    refused_line_is e = ap refused_line (Taken.refusal_is tape judged s.judgement) ∙ refused_first tape due ∙ ap (line_at tape) (sym e)
+    due : program_refusal tape ≡ 0 → ⊥
+    due z = Taken.refused_some tape (number_of e) refuses_it (Taken.refusal_is tape (number_of e) refuses_it ∙ z)
+
+    pub refused_line_is : k ≡ 0 → refused_line (number_of e) ≡ line_at tape k
+    refused_line_is z = ap refused_line (Taken.refusal_is tape (number_of e) refuses_it) ∙ refused_first tape due ∙ ap (line_at tape) (sym z)
 
     pub refused_end : (k ≡ 0 → ⊥) → [] ≡ line_at tape k
     refused_end n = refused_over tape due k n
 
     pub refused_stands : Stands tape judged (k + 1) points work at
-    refused_stands = record { judgement = s.judgement; running = λ z. absurd (h z) }
+    refused_stands = record { judgement = s.judgement; running = rw h tt }
 
   -- ---- a tape that is taken
 
-  module _ (z : judged.refusal ≡ 0) where
+  module _ (t : Planned) (z : judged ≡ Ok t) where
     abbrev q : Plan
-    q = judged.plan
+    q = t.plan
+
+    gives_it : gives t ≡ judging tape
+    gives_it = rw z at s.judgement
 
     run : Running tape q k points work at
-    run = s.running z
+    run = rw z at s.running
 
     pub ok : Accepted q
-    ok = Taken.plan_accepted tape judged s.judgement z
+    ok = Taken.plan_accepted tape t gives_it
 
     none : program_refusal tape ≡ 0
-    none = Taken.none_due tape judged s.judgement z
+    none = Taken.none_due tape t gives_it
 
     lists : lists_of q ≡ plan_for (campaign_of tape)
-    lists = Taken.lists_are tape judged s.judgement z
+    lists = Taken.lists_are tape t gives_it
 
     axes_are : length (plan_for (campaign_of tape)).lengths ≡ q.axes
     axes_are = ap (λ a. length a.lengths) (sym lists) ∙ ok.axes
@@ -79,8 +87,8 @@ module _ (tape : List ℕ) (judged : Planned) (k : ℕ) (points work : List ℤ)
     pub is_ready : Ready q points work at
     is_ready = run.ready
 
-    pub plan_line_there : k ≡ 0 → plan_text q judged.prices ≡ line_at tape k
-    plan_line_there e = plan_line_is q ok judged.prices (Taken.prices_lists tape judged s.judgement z) ∙ ap plan_line lists ∙ plan_first tape none ∙ ap (line_at tape) (sym e)
+    pub plan_line_there : k ≡ 0 → plan_text q t.prices ≡ line_at tape k
+    plan_line_there e = plan_line_is q ok t.prices (Taken.prices_lists tape t gives_it) ∙ ap plan_line lists ∙ plan_first tape none ∙ ap (line_at tape) (sym e)
 
     -- the axis of a dim line
     pub dim_asks : (k ≡ 0 → ⊥) → k ≤ q.axes → (k - 1 < 8) × (get_or q.order (k - 1) 0 < 8)
@@ -129,13 +137,13 @@ module _ (tape : List ℕ) (judged : Planned) (k : ℕ) (points work : List ℤ)
         pub group_stands : (w : List ℤ) (p : ℕ) → Ready q points w p → (groups_before q points at < length (groups_of q points) → groups_before q points p ≡ groups_before q points at + 1) → Stands tape judged (k + 1) points w p
         group_stands w p r h = record {
           judgement = s.judgement;
-          running = λ y. record {
+          running = rw z (record {
             plan = run.plan;
             loaded = run.loaded;
             ready = r;
             early = λ l. absurd (omega arith);
             later = λ l m. (let e = printed in let g = h some_left in omega arith);
-          };
+          });
         }
 
       pub end_line_there : k ≡ q.axes + 2 ^ q.axes → (n : ℕ) → n ≡ 2 ^ q.axes - 1 → end_line n ≡ line_at tape k
@@ -152,19 +160,19 @@ module _ (tape : List ℕ) (judged : Planned) (k : ℕ) (points work : List ℤ)
     pub kept_stands : (k ≤ q.axes → ⊥) → q.axes + 2 ^ q.axes ≤ k → Stands tape judged (k + 1) points work at
     kept_stands h l = record {
       judgement = s.judgement;
-      running = λ y. record { plan = run.plan; loaded = run.loaded; ready = run.ready; early = λ m. absurd (omega arith); later = λ m o. absurd (omega arith) };
+      running = rw z (record { plan = run.plan; loaded = run.loaded; ready = run.ready; early = λ m. absurd (omega arith); later = λ m o. absurd (omega arith) });
     }
 
     pub head_stands : k ≤ q.axes → Stands tape judged (k + 1) points work at
     head_stands h = record {
       judgement = s.judgement;
-      running = λ y. record {
+      running = rw z (record {
         plan = run.plan;
         loaded = run.loaded;
         ready = run.ready;
         early = λ m. run.early h;
         later = λ m o. (let e = run.early h in omega arith);
-      };
+      });
     }
 
 -- ---- how many lines there are, and how a report begins
@@ -174,45 +182,42 @@ pub line_some : (tape : List ℕ) (k n : ℕ) → n ≡ length (line_at tape k) 
 unfolding line_at
 line_some tape k n e h = by (ltb k (length (printed_lines tape))) (λ t. ltb-true _ _ t) (λ t. absurd (h (e ∙ ap length (get_or-eq_default (printed_lines tape) [] {n = k} (ltb-false k (length (printed_lines tape)) t)))))
 
-module _ (tape : List ℕ) (judged : Planned) (e : judged ≡ judging tape) where
-  pub lines_few : length (printed_lines tape) ≤ 300
-  lines_few = by_refusal judged.refusal refl
-    where
-      by_refusal : (n : ℕ) → judged.refusal ≡ n → length (printed_lines tape) ≤ 300
-      by_refusal zero z =
-          let none = Taken.none_due tape judged e z in
-          let a = Taken.plan_accepted tape judged e z in
-          let l : length (plan_for (campaign_of tape)).lengths ≡ judged.plan.axes = ap (λ a. length a.lengths) (sym (Taken.lists_are tape judged e z)) ∙ a.axes in
-          let g : length (group_lines (plan_for (campaign_of tape)) (read (campaign_of tape).points) (steps (grid_of (plan_for (campaign_of tape))))) + 1 ≡ 2 ^ judged.plan.axes = plan_groups (plan_for (campaign_of tape)) (read (campaign_of tape).points) ∙ ap (λ n. 2 ^ n) l in
-          let c = taken_count tape none in
-          let f = a.lengths.few in
-          let x = a.axes in
-          let p : 2 ^ judged.plan.axes ≤ 2 ^ 8 = pow_mono {j = 8} (omega arith) in
-          omega arith
-      by_refusal (suc n) z = let c = refused_count tape (λ y. absurd (let r = Taken.refusal_is tape judged e in omega arith)) in omega arith
+pub lines_few : (tape : List ℕ) (judged : Result Planned Refusal) → reply_of judged ≡ judging tape → length (printed_lines tape) ≤ 300
+lines_few tape (Ok t) e =
+    let none = Taken.none_due tape t e in
+    let a = Taken.plan_accepted tape t e in
+    let l : length (plan_for (campaign_of tape)).lengths ≡ t.plan.axes = ap (λ a. length a.lengths) (sym (Taken.lists_are tape t e)) ∙ a.axes in
+    let g : length (group_lines (plan_for (campaign_of tape)) (read (campaign_of tape).points) (steps (grid_of (plan_for (campaign_of tape))))) + 1 ≡ 2 ^ t.plan.axes = plan_groups (plan_for (campaign_of tape)) (read (campaign_of tape).points) ∙ ap (λ n. 2 ^ n) l in
+    let c = taken_count tape none in
+    let f = a.lengths.few in
+    let x = a.axes in
+    let p : 2 ^ t.plan.axes ≤ 2 ^ 8 = pow_mono {j = 8} (omega arith) in
+    omega arith
+lines_few tape (Err n) e = let c = refused_count tape (λ y. Taken.refused_some tape (number_of n) e (Taken.refusal_is tape (number_of n) e ∙ y)) in omega arith
 
-  pub begins : (points work : List ℤ) → (judged.refusal ≡ 0 → points ≡ (campaign_of tape).points) → Small points → length work ≡ 8192 → Stands tape judged 0 points work 0
-  begins points work h small room = record {
-    judgement = e;
-    running = λ z.
-        let a = Taken.points_are tape judged e z in
-        let f = Taken.points_few tape judged e z in
-        let l = ap length (h z) in
-        record {
-          plan = Taken.plan_is tape judged e z;
-          loaded = h z;
-          ready = record {
-            passed = Taken.plan_passed tape judged e z;
-            all = omega arith;
-            few = omega arith;
-            area = Taken.area_few tape judged e z;
-            small = small;
-            begun = work;
-            room = room;
-            within = omega arith;
-            there = unfold ran in refl;
-          };
-          early = λ m. (unfold groups_before group_lines in refl);
-          later = λ m o. absurd (omega arith);
+pub begins : (tape : List ℕ) (judged : Result Planned Refusal) → reply_of judged ≡ judging tape → (points work : List ℤ) → IfOk judged (λ t. points ≡ (campaign_of tape).points) → Small points → length work ≡ 8192 → Stands tape judged 0 points work 0
+begins tape (Err n) e points work h small room = record { judgement = e; running = tt }
+begins tape (Ok t) e points work h small room = record {
+  judgement = e;
+  running =
+      let a = Taken.points_are tape t e in
+      let f = Taken.points_few tape t e in
+      let l = ap length h in
+      record {
+        plan = Taken.plan_is tape t e;
+        loaded = h;
+        ready = record {
+          passed = Taken.plan_passed tape t e;
+          all = omega arith;
+          few = omega arith;
+          area = Taken.area_few tape t e;
+          small = small;
+          begun = work;
+          room = room;
+          within = omega arith;
+          there = unfold ran in refl;
         };
-  }
+        early = λ m. (unfold groups_before group_lines in refl);
+        later = λ m o. absurd (omega arith);
+      };
+}

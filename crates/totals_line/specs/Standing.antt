@@ -1,5 +1,7 @@
 -- Where a report stands.
-use Rattle.std.specs.Prelude.{ℕ, ◌+◌, ◌^◌, ◌≤◌, ◌<◌, ◌≡◌, List, ℤ}
+use Rattle.std.specs.Prelude.{ℕ, ◌+◌, ◌^◌, ◌≤◌, ◌<◌, ◌≡◌, List, ℤ, Result, Ok, Err, IfOk}
+use Rattle.cube_spec.specs.Refusals.{reply_of}
+use Rattle.cube_spec.specs.declared.refusals.Refusal.{Refusal}
 use Rattle.plan_spec.specs.Plans.{slotted}
 use Rattle.plan_spec.specs.declared.types.Plan.{Plan}
 use Rattle.plan_spec.specs.declared.types.Planned.{Planned}
@@ -22,10 +24,11 @@ pub record Running (tape : List ℕ) (q : Plan) (k : ℕ) (points work : List �
   pub later : q.axes < k → k ≤ q.axes + 2 ^ q.axes → 1 + q.axes + groups_before q points at ≡ k
 
 -- what the program knows of a tape after k lines
-pub record Stands (tape : List ℕ) (judged : Planned) (k : ℕ) (points work : List ℤ) (at : ℕ) : Type 0 where
-  pub judgement : judged ≡ judging tape
-  pub running : judged.refusal ≡ 0 → Running tape judged.plan k points work at
+pub record Stands (tape : List ℕ) (judged : Result Planned Refusal) (k : ℕ) (points work : List ℤ) (at : ℕ) : Type 0 where
+  pub judgement : reply_of judged ≡ judging tape
+  pub running : IfOk judged (λ planned. Running tape planned.plan k points work at)
 
 -- after k lines a group comes next: its line alone takes steps
-abbrev pub Grouping : Planned → ℕ → Type 0
-Grouping judged k = (judged.refusal ≡ 0) × (judged.plan.axes < k) × (k < judged.plan.axes + 2 ^ judged.plan.axes)
+abbrev pub Grouping : Result Planned Refusal → ℕ → Type 0
+Grouping (Ok planned) k = (planned.plan.axes < k) × (k < planned.plan.axes + 2 ^ planned.plan.axes)
+Grouping (Err refusal) k = ⊥

@@ -6,14 +6,16 @@ ghost use Rattle.std.proofs.lemmas.List.Edits.{sets};
 ghost use Rattle.report_spec.specs.Printed.{line_at};
 ghost use Rattle.totals_line.specs.Standing.{Grouping, Stands};
 
+use cube_spec::refusals::Refusal;
 use plan_spec::types::Planned;
 use report_line::reports::{dim_line, end_line, plan_line, refused_line};
 use totals_group::groups::next_group;
 
 // Puts the line after the first `handed` ones at the start of out and gives its length, 0 after the last line. The tape is lent for the contract alone.
+// That 0 says that there is no line, and that the slices are lent apart, is what docs/PROMISES.md and its theorems speak of.
 pub fn next_line(
     tape: &[u8],
-    judged: Planned,
+    judged: Result<Planned, Refusal>,
     handed: u64,
     points: &[i32],
     work: &mut [i64],
@@ -26,18 +28,20 @@ pub fn next_line(
         × Stands tape.now judged (handed + 1) points.now work.new position.new
         × ((Grouping judged handed → ⊥) → (work.new ≡ work.old) × (position.new ≡ position.old)) }
 {
-    if judged.refusal != 0 {
-        if handed != 0 {
-            return 0;
+    let planned = match judged {
+        Ok(planned) => planned,
+        Err(refusal) => {
+            if handed != 0 {
+                return 0;
+            }
+            return refused_line(out, refusal.number());
         }
-        return refused_line(out, judged.refusal);
-    }
-    let plan = judged.plan;
+    };
+    let plan = planned.plan;
     if handed == 0 {
-        let prices = judged.prices;
-        return plan_line(out, plan, prices);
+        return plan_line(out, plan, planned.prices);
     }
-    let axes = plan.axes as u64;
+    let axes = u64::from(plan.axes);
     if handed <= axes {
         return dim_line(out, plan, (handed - 1) as usize);
     }

@@ -1,24 +1,16 @@
 -- `totals::loading::load` meets its contract. Of a tape that judging takes, the scan passed and the points fit.
-use Rattle.totals_check.proofs.Taken.{plan_passed, fillable, loaded, loaded_fits}
+use Rattle.totals_check.proofs.Taken as laws
 use Rattle.totals.proofs.loading.load.Goals as goal
 
 pub fill_scanned-requires : goal.fill_scanned-requires
-fill_scanned-requires c =
-    fillable c.args.tape.now c.args.judged c.requires.0 c.if-judged-ne0.false _ c.requires.1
+fill_scanned-requires c = laws.fillable _ _ (rw c.in-Ok.is at c.requires.0) _ c.requires.1
 
 pub points_of-requires : goal.points_of-requires
-points_of-requires c =
-    plan_passed c.args.tape.now c.args.judged c.requires.0 c.if-judged-ne0.false
+points_of-requires c = laws.plan_passed _ _ (rw c.in-Ok.is at c.requires.0)
 
 pub returns : goal.returns
 returns c =
-    let a = c.args in
-    let z = c.if-judged-ne0.false in
-    let t = a.tape.now in
-    let j = a.judged in
-    let n = c.fill_scanned.new.slice in
-    let e = c.fill_scanned.ensures in (
-      loaded_fits t j c.requires.0 z a.points.now n c.requires.1 e c.points_of.result c.points_of.ensures,
-      λ y. (loaded t j c.requires.0 z a.points.now n c.requires.1 e c.points_of.result c.points_of.ensures, e),
-      λ h. absurd (h z),
-    )
+    let j = rw c.in-Ok.is at c.requires.0 in
+    let f = c.fill_scanned.ensures in
+    let n = c.points_of.ensures in
+    rw c.in-Ok.is (laws.loaded_fits _ _ j _ _ c.requires.1 f _ n, (laws.loaded _ _ j _ _ c.requires.1 f _ n, f), tt)

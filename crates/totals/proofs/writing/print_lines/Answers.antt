@@ -1,9 +1,6 @@
-use Prim.Native.Nat.{◌-◌}
-use mathlib.Core.Path.{◌≡◌, sym, refl, subst}
-use mathlib.Core.Bool.{Bool, false}
+use mathlib.Core.Path.{refl}
 use native.Mathlib.Omega.{arith}
 use Rattle.totals_line.proofs.Lined.{begins, lines_few, line_some}
-use Rattle.totals.specs.Endings.{Ends}
 use Rattle.totals.proofs.Handed.{line_there}
 use Rattle.totals.proofs.Stopping.{ends_whole, ends_cut}
 use borrow.Author.Rules.{rules}
@@ -27,9 +24,7 @@ write-taken-requires c = let nl = c.next_line-used in
 pub returns-then-not-taken : goal.returns-then-not-taken
 returns-then-not-taken c = let nl = c.next_line-used in
     let tape = c.args.tape.now in
-    let q : c.write-taken.result ≡ false = c.if-not-taken.true in
-    let e = ends_cut tape c.loop-judged.lines nl.result nl.ensures.0 c.if-used-eq0.false in
-    subst (λ (x : Bool). Ends tape (record { lines = c.loop-judged.lines; whole = x })) (sym q) e
+    ends_cut tape c.loop-judged.lines nl.result nl.ensures.0 c.if-used-eq0.false
 
 pub overflow_add-lines : goal.overflow_add-lines
 overflow_add-lines c = let nl = c.next_line-used in
