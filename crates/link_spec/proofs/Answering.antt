@@ -1,5 +1,5 @@
 -- What the search answers, in the code's terms.
-use Prim.Native.Nat.{ℕ, ◌-◌, ◌*◌, ◌≤◌, ◌<◌, min}
+use Prim.Native.Nat.{ℕ, ◌-◌, ◌*◌, ◌≤◌, min}
 use mathlib.Core.Path.{◌≡◌, ◌∙◌, ap, refl}
 use mathlib.Core.Bool.{true, false}
 use mathlib.Core.List.{List, [], ◌∷◌}
@@ -89,12 +89,6 @@ module _ {ds : List ℕ} {p : ℕ} {links : List ℕ} {budget : ℕ} {r : Planne
 
   pub few : length ds ≤ axis_limit
   few = k.fine.lengths.few
-
-  pub few_links : length links ≤ axis_limit
-  few_links = rw k.fine.each few
-
-  pub some_links : 0 < length links
-  some_links = rw k.fine.each k.fine.lengths.axes
 
   pub searchable : Searchable ds links r.plan.p × (1 ≤ budget)
   searchable =

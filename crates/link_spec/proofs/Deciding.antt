@@ -1,33 +1,23 @@
 -- The refusals of the search, test by test, and what is left when none is due.
-use Prim.Native.Nat.{ℕ, ◌+◌, ◌≤◌, ◌<◌}
+use Prim.Native.Nat.{ℕ, ◌≤◌, ◌<◌}
 use mathlib.Core.Path.{◌≡◌, ◌∙◌, sym}
 use mathlib.Core.Bool.{Bool, true, false, not}
 use mathlib.Core.List.{List, [], ◌∷◌}
 use native.Mathlib.Omega.{arith}
 use native.Mathlib.Nat.{pos_of_ne-zero}
-use native.Mathlib.Numerals.{add-one}
 use lib.Dec.{eqb, ltb}
-use lib.ListN.{length, get_or, drop, drop_of_length-le}
-use lib.Seq.{drop-cons}
-use borrow.Author.Tests.{eq-eqb, ne_eqb, eqb-true, eqb-false, lt-ltb, le-ltb, ltb-false, not-false}
+use lib.ListN.{length}
+use borrow.Author.Tests.{eq-eqb, ne_eqb, eqb-true, eqb-false, le-ltb, ltb-false, not-false}
 use Rattle.cube_spec.specs.Checks.{Check, check, first}
 use Rattle.cube_spec.proofs.Dues.{Numbered, numbered_both, first_due, first_passed, none_first, none_both}
 use Rattle.plan_spec.specs.Refusals.{some, planning_checks, planning_refusal}
-use Rattle.plan_spec.proofs.Judging.{some_false, some_none, or_true}
+use Rattle.plan_spec.proofs.Judging.{some_false, some_none}
 use Rattle.plan_spec.proofs.Accepting.{or_none, planning_numbered, planning_passed, planning_accept}
 use Rattle.link_spec.specs.Costs.{link_of}
 use Rattle.link_spec.specs.Search.{link_limit, bad_link, bad_links, search_checks, search_refusal}
 use Rattle.link_spec.specs.Accepted.{SearchAccepted}
 
 -- ---- link weights
-pub link_zero : (w : ℕ) → w ≡ 0 → bad_link w ≡ true
-unfolding bad_link
-link_zero w e = rw (eq-eqb w 0 e)
-
-pub link_over : (w : ℕ) → link_limit < w → bad_link w ≡ true
-unfolding bad_link
-link_over w h = rw (lt-ltb link_limit w h) (or_true (eqb w 0))
-
 pub link_good : (w : ℕ) → (w ≡ 0 → ⊥) → w ≤ link_limit → bad_link w ≡ false
 unfolding bad_link
 link_good w z h = rw (ne_eqb w 0 z, le-ltb link_limit w h)
@@ -38,26 +28,8 @@ good_link w e =
     let o = or_none (eqb w 0) (ltb link_limit w) e in
     (pos_of_ne-zero (eqb-false w 0 o.0), ltb-false link_limit w o.1)
 
--- a list tested from place i on
-module _ (f : ℕ → Bool) (l : List ℕ) (i : ℕ) (h : i < length l) where
-  pub some_here : f (get_or l i 0) ≡ true → some f (drop i l) ≡ true
-  unfolding some
-  some_here t = rw (drop-cons l i 0 h, t)
-
-  pub some_on : f (get_or l i 0) ≡ false → some f (drop i l) ≡ some f (drop (i + 1) l)
-  unfolding some
-  some_on t = rw (drop-cons l i 0 h, t, add-one i)
-
-pub some_past : (f : ℕ → Bool) (l : List ℕ) (i : ℕ) → length l ≤ i → some f (drop i l) ≡ false
-unfolding some
-some_past f l i h = rw (drop_of_length-le l h)
-
 -- one for each axis, each in range
 module _ (n : ℕ) (links : List ℕ) where
-  pub links_count : (length links ≡ n → ⊥) → true ≡ bad_links n links
-  unfolding bad_links
-  links_count h = rw (ne_eqb (length links) n h)
-
   pub links_each : length links ≡ n → (t : Bool) → t ≡ some bad_link links → t ≡ bad_links n links
   unfolding bad_links
   links_each h t e = rw (eq-eqb (length links) n h) e

@@ -55,9 +55,6 @@ pub record Read (space₀ space : List ℕ) (used : ℕ) : Type 0 where
   pub digits : (i : ℕ) → i < used → is_digit (get_or space i 0) ≡ true
   pub keeps : Keeps space₀ space used
 
-pub read_none : (space : List ℕ) → Read space space 0
-read_none space = record { fits = omega arith; digits = λ i h. absurd (omega arith); keeps = record { same = refl; rest = λ i h. refl } }
-
 module _ {space₀ space : List ℕ} {used : ℕ} (w : Read space₀ space used) where
   pub stops_ended : Stops space (record { used = used; ended = true })
   stops_ended = record { most = w.fits; before = λ i h. w.digits i (omega arith); last = λ e k. clash e }

@@ -1,5 +1,5 @@
 -- What is drawn before the points, as the code draws it: one length after the other, then p.
-use Rattle.std.proofs.Common.{◌≡◌, ℕ, suc, ◌+◌, ◌*◌, ◌%◌, ◌^◌, ◌<◌, ◌≤◌, min, List, length, take, set, replicate, sym, refl, ap, ◌∙◌, mod-lt, mul-le-mul, arith}
+use Rattle.std.proofs.Common.{◌≡◌, ℕ, suc, ◌+◌, ◌*◌, ◌%◌, ◌^◌, ◌<◌, ◌≤◌, min, List, length, take, set, replicate, sym, refl, ap, ◌∙◌, mul-le-mul, arith}
 use native.Mathlib.Nat.{pow-le-pow_right}
 use Rattle.cube_spec.specs.Limits.{axis_limit, padded}
 use Rattle.cube_spec.specs.Boxes.{product, table}
@@ -12,17 +12,6 @@ use Rattle.practice_spec.specs.Draws.{round, after, drawn, axes_of, length_by, l
 use Rattle.practice_spec.proofs.Drawn.{drawn_length, drawn_at, drawn_next, after_next}
 use Rattle.practice_draw.specs.declared.types.Shape.{Shape}
 use Rattle.practice_draw.specs.inner.Shapes.{shape_of}
-
--- ---- p
-
-pub power_low : (draw room : ℕ) → room < 3 → draw % (1 + room) ≡ draw % (1 + min 3 room)
-power_low draw room h = let e : min 3 room ≡ room = omega arith in rw e refl
-
-pub power_high : (draw room : ℕ) → 3 ≤ room → draw % 4 ≡ draw % (1 + min 3 room)
-power_high draw room h = let e : min 3 room ≡ 3 = omega arith in rw e refl
-
-pub power_fit : (draw room : ℕ) → room < 3 → draw % (1 + room) < 256
-power_fit draw room h = let m = mod-lt draw {m = 1 + room} (omega arith) in omega arith
 
 -- ---- lengths
 

@@ -4,7 +4,7 @@ use mathlib.Core.Path.{◌≡◌, sym, ◌∙◌, refl, ap}
 use mathlib.Core.Bool.{Bool, true, false, ◌&&◌, ◌||◌, not}
 use mathlib.Core.List.{List, [], ◌∷◌, ◌++◌}
 use native.Mathlib.Omega.{arith}
-use native.Mathlib.Nat.{zero-add, add-zero, pow-le-pow_right}
+use native.Mathlib.Nat.{zero-add, add-zero}
 use borrow.Author.Tests.{le-leb, lt-leb, lt-ltb, le-ltb, ne_eqb, eq-eqb}
 use lib.Dec.{eqb, ltb, leb}
 use lib.ListN.{length, get_or, drop, drop_of_length-le}
@@ -126,10 +126,7 @@ reads_end input i v e h = sym (e ∙ ap (left_over i v) (drop_of_length-le input
 
 -- ---- sizes
 
--- what at most nine digits spell, and one digit more
-pub small_value : (i v : ℕ) → v < 10 ^ i → i ≤ 9 → v < 1000000000
-small_value i v h k = let p = pow-le-pow_right {n = 10} (omega arith) {i = i} {j = 9} k in omega arith
-
+-- one digit more
 pub next_value : (i v x : ℕ) → v < 10 ^ i → x ≤ 9 → 10 * v + x < 10 ^ (i + 1)
 next_value i v x h k = let e : 10 ^ (i + 1) ≡ 10 * 10 ^ i = (let q : i + 1 ≡ suc i = omega arith in rw q (omega arith)) in omega arith
 

@@ -90,9 +90,6 @@ module _ {A : Type 0} (f : A → List ℕ) where
   unfolding spread
   front_none out at l = (sym (add-zero at), refl)
 
-  pub front_all : (l : List A) (i : ℕ) → length l ≤ i → front l i ≡ spread (map f l)
-  front_all l i h = ap (λ x. spread (map f x)) (take_all i l h)
-
 pub numbers_are : (l : List ℕ) → map decimal l ≡ numbers l
 unfolding numbers
 numbers_are [] = refl
