@@ -19,7 +19,8 @@ pub struct Tally {
     pub sent: u32,
 }
 
-// The tallies at each place up to the number of axes. Narrow, since what a board holds is found by handing them down at every turn.
+// The tallies at each place up to the number of axes. Narrow, since what a board holds is found by handing them on at every turn.
+// Functions take them beside the plan, and ask that they are its own by a clause: the promises name these functions, so a type for both would change what they ask.
 #[derive(Clone, Copy, Debug, PartialEq, Eq)]
 pub struct Tallies {
     pub places: [Tally; 9],

@@ -22,7 +22,7 @@ pub fn extent_of(plan: Plan, d: usize, l: u64) -> u64
     portion_of(plan.lengths[axis], plan.exponents[axis], l)
 }
 
-// The labels, by place, of the lead that has a rank among the leads of a choice.
+// The labels, by place, of the lead that has a rank among the leads of a choice. In eight slots, since nothing is allocated.
 pub fn lead_labels(plan: Plan, choice: Choice, rank: u64) -> [u64; 8]
     requires { (plan_refusal plan ≡ 0) × (rank < leads (plan_grid plan) (summed_in plan choice.mask)) }
     ensures { result ≡ padded (table plan.axes (lead_label (plan_grid plan) (summed_in plan choice.mask) rank)) }

@@ -13,7 +13,7 @@ use plan_spec::types::Plan;
 use rack_find::steps::step_at;
 use rack_spec::types::Step;
 
-// The step that leads to a position.
+// The step that leads to a position, done where there is none.
 pub fn step_before(plan: Plan, at: u64) -> Step
     requires { plan_refusal plan ≡ 0 }
     ensures { told result ≡ told_before (plan_grid plan) at }

@@ -38,7 +38,7 @@ pub fn check_view(plan: Plan, work: &[i64], position: u64, board: u32) -> Result
     Ok(())
 }
 
-// Where a board's cells of the choice that the position finishes stand in the work area: no cells for a board that is no lead.
+// Where a board's cells of the choice that the position finishes stand in the work area: no cells for a board that is no lead, as the promises and C's entry have it.
 pub fn part_of(plan: Plan, position: u64, board: u32) -> Part
     requires { (plan_refusal plan ≡ 0) × (board < board_count (lists_of plan)) }
     ensures { (result ≡ part_of (plan_grid plan) position board) × (result.start + result.cells ≤ boards (plan_grid plan) * share (plan_grid plan)) × (result.start + result.cells < 2 ^ 39) }
