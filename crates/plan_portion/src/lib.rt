@@ -11,7 +11,7 @@ fn least_of(length: u32, k: u8) -> u64
     requires { k ≤ power_limit }
     ensures { (result ≡ length / 2 ^ k) × (result ≤ length) }
 {
-    (length as u64) / (1u64 << k)
+    u64::from(length) / (1u64 << k)
 }
 
 // How many portions have one position more: the first ones.
@@ -19,7 +19,7 @@ fn longer_of(length: u32, k: u8) -> u64
     requires { k ≤ power_limit }
     ensures { result ≡ length % 2 ^ k }
 {
-    (length as u64) % (1u64 << k)
+    u64::from(length) % (1u64 << k)
 }
 
 // Where portion l starts: after l portions, with one position more for each longer one among them. The last one ends where the next would start.
@@ -29,8 +29,7 @@ pub fn portion_start(length: u32, k: u8, l: u64) -> u64
 {
     let least = least_of(length, k);
     let longer = longer_of(length, k);
-    let more = if l < longer { l } else { longer };
-    l * least + more
+    l * least + l.min(longer)
 }
 
 // How many positions portion l has.
