@@ -32,7 +32,8 @@ fn print_lines(
     cells: &mut [i64],
     out: &mut [u8],
 ) -> Result<u64, Stopped>
-    requires { (reply_of judged ≡ judging tape.now) × IfOk judged (λ planned. points.now ≡ (campaign_of tape.now).points) × Small points.now × (length work.old ≡ 8192) × (length cells.old ≡ 8192) × (length out.old ≡ 172064) }
+    requires { (reply_of judged ≡ judging tape.now) × IfOk judged (λ planned. points.now ≡ (campaign_of tape.now).points)
+        × Small points.now × (length work.old ≡ 8192) × (length cells.old ≡ 8192) × (length out.old ≡ 172064) }
     ensures { Ends tape.now result }
 {
     let mut lines: u64 = 0;
@@ -78,7 +79,8 @@ pub fn print(
     cells: &mut [i64],
     out: &mut [u8],
 ) -> Result<u64, Stopped>
-    requires { (tape_limit < length space.now) × (n ≤ length space.now) × (length points.old ≡ 8192) × (length work.old ≡ 8192) × (length cells.old ≡ 8192) × (length out.old ≡ 172064) }
+    requires { (tape_limit < length space.now) × (n ≤ length space.now) × (length points.old ≡ 8192) × (length work.old ≡ 8192)
+        × (length cells.old ≡ 8192) × (length out.old ≡ 172064) }
     ensures { EndsAfter space.now n result }
 {
     print_tape(&space[..n], points, work, cells, out)

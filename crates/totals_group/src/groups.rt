@@ -24,7 +24,8 @@ fn put_finished(
     out: &mut [u8],
 ) -> usize
     requires { (plan_refusal plan ≡ 0) × (Choices.points (lists_of plan).lengths ≤ length cells.old) × (27 + 21 * length cells.old ≤ length out.old) }
-    ensures { (result ≡ length (group_text plan work.now position choice.mask (take (Choices.cells (lists_of plan).lengths choice.mask) cells.old))) × (result ≤ length out.new)
+    ensures { (result ≡ length (group_text plan work.now position choice.mask (take (Choices.cells (lists_of plan).lengths choice.mask) cells.old)))
+        × (result ≤ length out.new)
         × (out.new ≡ sets out.old 0 (group_text plan work.now position choice.mask (take (Choices.cells (lists_of plan).lengths choice.mask) cells.old))) }
 {
     let n = choice.cells(&plan.lengths[..plan.axes as usize]) as usize;
