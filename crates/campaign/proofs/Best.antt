@@ -2,12 +2,12 @@
 -- plan that a call leaves in what it is lent.
 use Prim.Native.Nat.{ℕ, ◌+◌, ◌^◌}
 use mathlib.Core.List.{List, [], ◌∷◌}
-use mathlib.Core.Path.{◌≡◌, sym, ◌∙◌, refl, ap, subst}
+use mathlib.Core.Path.{◌≡◌, sym, ◌∙◌, ap}
 use lib.ListN.{length, get_or}
 use contract.Lifetimes.{Lfts}
 use borrow.Fn.World.{ArgsD, ResD}
 use denote.Triple.Clauses.{AtExit}
-use Rattle.cube_spec.specs.Checks.{first}
+use Rattle.cube_spec.specs.Checks.{first, gives}
 use Rattle.plan_spec.specs.declared.types.Planned.{Planned}
 use Rattle.plan_spec.specs.declared.types.Marked.{Marked}
 use Rattle.plan_spec.specs.Plans.{lists_of}
@@ -39,10 +39,6 @@ pub campaign_best : (κs : Lfts 2) (a : ArgsD bytes.signature κs) (r : ResD byt
     → BestPlan (pairs a.0.now) (power_used (pairs a.0.now) a.1.0) (plan_in (pairs a.0.now) s.1.1.0.now)
 campaign_best κs a r s h e = result_best a.0.now a.1.0 a.1.1.0.now s.1.1.0.now (sym h.0 ∙ e) h.1
 
-read_granted : (small slots cells : List ℕ) → (read_back small slots cells).refusal ≡ 0
-unfolding read_back
-read_granted small slots cells = refl
-
 -- of every call of `campaign_make` with answer 0, and what its caller reads back
 module _ (κs : Lfts 4) (a : ArgsD make.signature κs) (r : ResD make.signature κs) (s : AtExit make.ended κs) (h : make-reads.Learnt κs a r s) (e : r ≡ 0) where
   abbrev lengths : List ℕ
@@ -58,21 +54,18 @@ module _ (κs : Lfts 4) (a : ArgsD make.signature κs) (r : ResD make.signature 
   abbrev told : Planned
   told = read_back s.1.1.0.now s.1.1.1.0.now s.1.1.1.1.0.now
 
-  says : told ≡ planning lengths asked
+  says : gives told ≡ planning lengths asked
   says =
       let z = make_answer lengths asked a.1.1.0.now a.1.1.1.0.now a.1.1.1.1.0.now (sym (ap (λ (m : Made). m.answer) h) ∙ e) in
-      ap (λ (m : Made). read_back m.small m.slots m.cells) h ∙ make_planned lengths asked a.1.1.0.now a.1.1.1.0.now a.1.1.1.1.0.now z
-
-  none : (planning lengths asked).refusal ≡ 0
-  none = sym (ap (λ (m : Planned). m.refusal) says) ∙ read_granted s.1.1.0.now s.1.1.1.0.now s.1.1.1.1.0.now
+      ap (λ (m : Made). gives (read_back m.small m.slots m.cells)) h ∙ make_planned lengths asked a.1.1.0.now a.1.1.1.0.now a.1.1.1.1.0.now z
 
   -- Statement: the plan and its prices are best.
   pub make_best : Best lengths power told
-  make_best = subst (Best lengths power) (sym says) (answer_best lengths asked none)
+  make_best = answer_best lengths asked told says
 
   -- Statement: the plan is of these lengths and the p used, and no entry refuses it for what a plan may be (3 to 9).
   pub make_runs : Runnable lengths power told
-  make_runs = subst (Runnable lengths power) (sym says) (answer_runs lengths asked none)
+  make_runs = answer_runs lengths asked told says
 
   -- Statement: pricing takes what was left, and tells the same prices and yes to "fewest cells added up".
   pub make_price : (out : List ℕ) → length out ≡ 4 → (0 ≡ price_refusal told.plan (length out)) × (cells_priced told.prices 1 ≡ priced told.plan out)
@@ -85,7 +78,7 @@ module _ (κs : Lfts 4) (a : ArgsD make.signature κs) (r : ResD make.signature 
 
   -- Statement: the idle boards and the plan's are all that were asked for.
   pub make_idle : told.idle + 2 ^ (lists_of told.plan).p ≡ 2 ^ asked
-  make_idle = rw make_runs.boards (ap (λ (x : Planned). x.idle + 2 ^ power) says ∙ answer_idle lengths asked none)
+  make_idle = rw make_runs.boards (answer_idle lengths asked told says)
 
 -- Statement: of every call of `campaign_idle` with answer 0: the cell and the boards in use, whose p is that of the plan that `campaign_plan` leaves
 -- (`campaign_best`: `boards`), are all that were asked for.

@@ -8,28 +8,30 @@ use borrow.Author.Tests.{eq-eqb, ne_eqb, eqb-true, eqb-false}
 use lib.Dec.{eqb}
 use lib.ListN.{length, get_or, take, drop}
 use lib.IntN.{ℤ}
-use Rattle.cube_spec.specs.Checks.{Check, check, first}
+use Rattle.cube_spec.specs.Checks.{Check, check, first, gives, refuses}
+use Rattle.cube_spec.specs.Refusals.{number_of}
+use Rattle.cube_spec.specs.declared.refusals.Refusal.{Refusal}
 use Rattle.plan_spec.specs.declared.types.Plan.{Plan}
 use Rattle.plan_spec.specs.declared.types.Prices.{Prices}
 use Rattle.plan_spec.specs.declared.types.Planned.{Planned}
 use Rattle.plan_spec.specs.Plans.{PlanLists, slotted}
 use Rattle.plan_spec.specs.Rule.{plan_of, power_used, plan_within, idle_boards}
 use Rattle.plan_spec.specs.Refusals.{plan_checks, length_checks, planning_checks, planning_refusal, plan_refusal}
-use Rattle.plan_spec.specs.Answers.{prices_of, planned_as, planning}
+use Rattle.plan_spec.specs.Answers.{prices_of, planned_of, planning}
 use Rattle.plan_spec.proofs.Accepting.{padded_length, planning_numbered, planning_accepted, planned_accepted}
-use Rattle.plan_spec.proofs.Answering.{refusal_of, plan_of_lem, prices_of_lem, idle_of}
+use Rattle.plan_spec.proofs.Answering.{planned_given, given_planned, refused_planned}
 use Rattle.plan_spec.proofs.Demand.{plan_sound}
 use Rattle.cube_spec.proofs.Sums.{by}
 use Rattle.cube_spec.proofs.Dues.{Numbered, first_due, first_passed}
 use Rattle.rack_spec.specs.Finding.{plan_grid}
 use Rattle.rack_spec.specs.Answers.{Told}
-use Rattle.run_spec.specs.Entries.{Outcome, outcome, step_checks, step_refusal, stepping, view_checks, view_refusal, viewing, gather_refusal, gathering}
+use Rattle.run_spec.specs.Entries.{Outcome, outcome, step_checks, step_refusal, stepping, view_checks, view_refusal, viewing}
 use Rattle.run_view.specs.declared.types.Part.{Part}
 use Rattle.run_view.specs.Places.{part_of}
 use Rattle.run_view.proofs.Placed.{shown_part}
 use Rattle.controller.specs.declared.types.Asked.{Asked}
-use Rattle.controller.specs.Bytes.{asked_checks, asked_refusal, asking}
-use Rattle.controller.proofs.Pairing as pairing
+use Rattle.controller.specs.Bytes.{pairs, asked_checks, asked_refusal, asked_of, asking}
+use Rattle.controller.proofs.Pairing.{asked_numbered}
 use Rattle.campaign_slices.specs.Lent.{lent_refusal, written_or}
 use Rattle.campaign_slices.specs.Racks.{plan_from, bytes_of, cells_told, cells_priced}
 use Rattle.campaign_slices.proofs.Racking as racking
@@ -38,33 +40,33 @@ use Rattle.campaign.specs.Calls.{wrong_slices, make_refusal, made, made_or, maki
 
 -- ---- planning
 
-module _ (ds : List ℕ) (p : ℕ) (small slots cells : List ℕ) where
-  module _ (f : Planned) (e : f ≡ planning ds p) where
-    refusal_is : f.refusal ≡ planning_refusal ds p
-    unfolding planning
-    refusal_is = ap (λ (x : Planned). x.refusal) e ∙ refusal_of _ _ _
+module _ (ds : List ℕ) (p : ℕ) where
+  abbrev planned : Planned
+  planned = planned_of (idle_boards ds p) (plan_within ds p)
 
-    left : (n : ℕ) (a : Planned) → (n ≡ 0 → ⊥) → made n small slots cells ≡ made_or n a small slots cells
+  module _ (small slots cells : List ℕ) where
+    left : (n : ℕ) → (n ≡ 0 → ⊥) → made n small slots cells ≡ made_or n planned small slots cells
     unfolding made_or
-    left zero a h = absurd (h refl)
-    left (suc n) a h = refl
+    left zero h = absurd (h refl)
+    left (suc n) h = refl
 
-    pub make_refused : (f.refusal ≡ 0 → ⊥) → made f.refusal small slots cells ≡ making ds p small slots cells
+    pub make_refused : (n : ℕ) → refuses n ≡ planning ds p → made n small slots cells ≡ making ds p small slots cells
     unfolding making make_refusal planning_refusal
-    make_refused h =
-        let due = first_due (planning_checks ds p) (check 13 (wrong_slices (length small) (length slots) (length cells)) ∷ []) (λ z. h (refusal_is ∙ z)) in
-        left f.refusal (planning ds p) h ∙ ap (λ n. made_or n (planning ds p) small slots cells) (refusal_is ∙ sym due)
+    make_refused n e =
+        let (q, h) = refused_planned ds p n e in
+        let due = first_due (planning_checks ds p) (check 13 (wrong_slices (length small) (length slots) (length cells)) ∷ []) (λ z. h (q ∙ z)) in
+        left n h ∙ ap (λ n. made_or n planned small slots cells) (q ∙ sym due)
 
-    module _ (h : f.refusal ≡ 0) where
+    module _ (f : Planned) (e : gives f ≡ planning ds p) where
       due_is : (t : Bool) → wrong_slices (length small) (length slots) (length cells) ≡ t → first (check 13 t ∷ []) ≡ make_refusal ds p (length small) (length slots) (length cells)
       unfolding make_refusal planning_refusal
       due_is t w =
-          let q = first_passed (planning_checks ds p) (check 13 (wrong_slices (length small) (length slots) (length cells)) ∷ []) (planning_numbered ds p) (sym refusal_is ∙ h) in
+          let q = first_passed (planning_checks ds p) (check 13 (wrong_slices (length small) (length slots) (length cells)) ∷ []) (planning_numbered ds p) (given_planned ds p f e).0 in
           sym (q ∙ ap (λ (u : Bool). first (check 13 u ∷ [])) w)
 
       wrong : wrong_slices (length small) (length slots) (length cells) ≡ true → made 13 small slots cells ≡ making ds p small slots cells
       unfolding making first
-      wrong w = left 13 (planning ds p) (λ z. omega arith) ∙ ap (λ n. made_or n (planning ds p) small slots cells) (due_is true w)
+      wrong w = left 13 (λ z. omega arith) ∙ ap (λ n. made_or n planned small slots cells) (due_is true w)
 
       pub wrong_small : (length small ≡ 18 → ⊥) → made 13 small slots cells ≡ making ds p small slots cells
       unfolding wrong_slices
@@ -80,34 +82,31 @@ module _ (ds : List ℕ) (p : ℕ) (small slots cells : List ℕ) where
           unfolding wrong_slices
           wrong_cells l = wrong (rw (eq-eqb (length small) 18 s, eq-eqb (length slots) 8 t, ne_eqb (length cells) 4 l) refl)
 
-          pub make_given : length cells ≡ 4 → (r : ℕ) (a b c : List ℕ) → a ≡ bytes_of f.plan → b ≡ f.plan.lengths
-              → r ≡ lent_refusal [] 4 (length cells) → c ≡ written_or r (cells_priced f.prices f.idle) cells → made r a b c ≡ making ds p small slots cells
+          pub make_given : length cells ≡ 4 → (r : ℕ) (a b c : List ℕ) → (a ≡ bytes_of f.plan) × (b ≡ f.plan.lengths)
+              → (r ≡ lent_refusal [] 4 (length cells)) × (c ≡ written_or r (cells_priced f.prices f.idle) cells) → made r a b c ≡ making ds p small slots cells
           unfolding making made_or wrong_slices lent_refusal written_or first
-          make_given l r a b c ea eb er ec =
+          make_given l r a b c (ea, eb) (er, ec) =
               let z : r ≡ 0 = er ∙ rw (eq-eqb (length cells) 4 l) refl in
               let k : c ≡ cells_priced f.prices f.idle = rw z at ec in
               let w : wrong_slices (length small) (length slots) (length cells) ≡ false = rw (eq-eqb (length small) 18 s, eq-eqb (length slots) 8 t, eq-eqb (length cells) 4 l) refl in
               let d = due_is false w in
-              rw (z, ea, eb, k, e) (ap (λ n. made_or n (planning ds p) small slots cells) d)
+              rw (z, ea, eb, k, (given_planned ds p f e).1) (ap (λ n. made_or n planned small slots cells) d)
 
 -- ---- the idle boards
 
-module _ (bytes : List ℕ) (p : ℕ) (idle : List ℕ) (a : Asked) (e : a ≡ asking bytes p) where
-  pub idle_refused : (a.refusal ≡ 0 → ⊥) → (a.refusal ≡ idle_refusal bytes p (length idle)) × (idle ≡ idling bytes p idle)
-  unfolding idle_refusal idling asked_refusal
-  idle_refused h = lending.refused (asked_checks bytes p) 1 idle a.refusal (pairing.refusal_is bytes p a e) h _
+module _ (bytes : List ℕ) (p : ℕ) (idle : List ℕ) where
+  pub idle_refused : (n : ℕ) → refuses n ≡ asking bytes p → (n ≡ idle_refusal bytes p (length idle)) × (idle ≡ idling bytes p idle)
+  unfolding idle_refusal idling asking asked_refusal
+  idle_refused n e = lending.not_told (asked_checks bytes p) 1 idle (asked_of (pairs bytes) p) (λ (a : Asked). a.idle ∷ []) n e
 
-  pub idle_given : a.refusal ≡ 0 → (r : ℕ) (w : List ℕ) → r ≡ lent_refusal [] 1 (length idle) → w ≡ written_or r (a.idle ∷ []) idle
+  pub idle_given : (a : Asked) → gives a ≡ asking bytes p → (r : ℕ) (w : List ℕ) → (r ≡ lent_refusal [] 1 (length idle)) × (w ≡ written_or r (a.idle ∷ []) idle)
       → (r ≡ idle_refusal bytes p (length idle)) × (w ≡ idling bytes p idle)
-  unfolding idle_refusal idling asked_refusal
-  idle_given h r w er ew =
-      let z : first (asked_checks bytes p) ≡ 0 = sym (pairing.refusal_is bytes p a e) ∙ h in
-      let i = ap (λ (n : ℕ). written_or r (n ∷ []) idle) (pairing.idle_is bytes p a e h) in
-      lending.passed (asked_checks bytes p) 1 idle (pairing.asked_numbered bytes p) z r _ w er (ew ∙ i)
+  unfolding idle_refusal idling asking asked_refusal
+  idle_given a e r w h = lending.told (asked_checks bytes p) 1 idle (asked_of (pairs bytes) p) (λ (a : Asked). a.idle ∷ []) (asked_numbered bytes p) a e r w h
 
--- ---- the entries, of the plan q in the slices
+-- ---- the entries of a plan
 
-module _ (g q : Plan) (e : g ≡ q) where
+module _ (q : Plan) where
   module _ (array work : List ℤ) (at : ℕ) (step : List ℕ) where
     step_numbered : Numbered (step_checks q (length array) (length work) at)
     unfolding step_checks plan_checks length_checks
@@ -118,60 +117,47 @@ module _ (g q : Plan) (e : g ≡ q) where
     kept zero o h = absurd (h refl)
     kept (suc n) o h = refl
 
-    module _ (k : ℕ) (ek : k ≡ step_refusal g (length array) (length work) at) where
-      first_is : k ≡ first (step_checks q (length array) (length work) at)
-      unfolding step_refusal
-      first_is = ek ∙ ap (λ x. step_refusal x (length array) (length work) at) e
+    pub run_refused : (x : Refusal) → number_of x ≡ step_refusal q (length array) (length work) at → ran (number_of x) work at step ≡ running q array work at step
+    unfolding running run_refusal step_refusal
+    run_refused x e =
+        let d = lending.refused (step_checks q (length array) (length work) at) 5 step (number_of x) e (lending.some x) [] in
+        kept (number_of x) (stepping q array work at) (lending.some x) ∙ ap (λ n. ran_or n (stepping q array work at) work at step) d.0
 
-      pub run_refused : (k ≡ 0 → ⊥) → ran k work at step ≡ running q array work at step
-      unfolding running run_refusal
-      run_refused h =
-          let d = lending.refused (step_checks q (length array) (length work) at) 5 step k first_is h [] in
-          kept k (stepping q array work at) h ∙ ap (λ n. ran_or n (stepping q array work at) work at step) d.0
+    module _ (h : step_refusal q (length array) (length work) at ≡ 0) where
+      given : (r : ℕ) → r ≡ lent_refusal [] 5 (length step) → r ≡ run_refusal q (length array) (length work) at (length step)
+      unfolding run_refusal lent_refusal step_refusal
+      given r er = er ∙ sym (first_passed (step_checks q (length array) (length work) at) _ step_numbered h)
 
-      module _ (h : k ≡ 0) where
-        given : (r : ℕ) → r ≡ lent_refusal [] 5 (length step) → r ≡ run_refusal q (length array) (length work) at (length step)
-        unfolding run_refusal lent_refusal
-        given r er = er ∙ sym (first_passed (step_checks q (length array) (length work) at) _ step_numbered (sym first_is ∙ h))
+      -- with a slice of another length no step is taken
+      pub not_run : (length step ≡ 5 → ⊥) → ran 13 work at step ≡ running q array work at step
+      unfolding running
+      not_run l =
+          let d = given 13 (lending.wrong 5 step [] l).0 in
+          kept 13 (stepping q array work at) (λ z. omega arith) ∙ ap (λ n. ran_or n (stepping q array work at) work at step) d
 
-        -- with a slice of another length no step is taken
-        pub not_run : (length step ≡ 5 → ⊥) → ran 13 work at step ≡ running q array work at step
-        unfolding running
-        not_run l =
-            let d = given 13 (lending.wrong 5 step [] l).0 in
-            kept 13 (stepping q array work at) (λ z. omega arith) ∙ ap (λ n. ran_or n (stepping q array work at) work at step) d
+      pub run : length step ≡ 5 → (t : Told) (w : List ℤ) (to : ℕ) → outcome t w to ≡ stepping q array work at
+          → (r : ℕ) (o : List ℕ) → (r ≡ lent_refusal [] 5 (length step)) × (o ≡ written_or r (cells_told t) step) → ran r w to o ≡ running q array work at step
+      unfolding running ran_or written_or
+      run l t w to s r o (er, eo) =
+          let z : r ≡ 0 = er ∙ sym (lending.right 5 step [] l [] refl).0 in
+          let c : o ≡ cells_told t = rw z at eo in
+          let d : 0 ≡ run_refusal q (length array) (length work) at (length step) = sym z ∙ given r er in
+          rw (z, c) (ap (λ (x : Outcome). ran 0 x.work x.position (cells_told x.says)) s ∙ ap (λ n. ran_or n (stepping q array work at) work at step) d)
 
-        pub run : length step ≡ 5 → (t : Told) (w : List ℤ) (to r : ℕ) (o : List ℕ) → outcome t w to ≡ stepping g array work at
-            → r ≡ lent_refusal [] 5 (length step) → o ≡ written_or r (cells_told t) step → ran r w to o ≡ running q array work at step
-        unfolding running ran_or written_or
-        run l t w to r o es er eo =
-            let z : r ≡ 0 = er ∙ sym (lending.right 5 step [] l [] refl).0 in
-            let c : o ≡ cells_told t = rw z at eo in
-            let d : 0 ≡ run_refusal q (length array) (length work) at (length step) = sym z ∙ given r er in
-            let s : outcome t w to ≡ stepping q array work at = es ∙ ap (λ x. stepping x array work at) e in
-            rw (z, c) (ap (λ (x : Outcome). ran 0 x.work x.position (cells_told x.says)) s ∙ ap (λ n. ran_or n (stepping q array work at) work at step) d)
-
-  module _ (work at b : ℕ) where
+  module _ (work at b : ℕ) (part : List ℕ) where
     view_numbered : Numbered (view_checks q work at b)
     unfolding view_checks plan_checks length_checks
     view_numbered = (omega arith, (omega arith, (omega arith, (omega arith, (omega arith, (omega arith, (omega arith, (omega arith, tt))))))))
 
-    module _ (part : List ℕ) (k : ℕ) (ek : k ≡ view_refusal g work at b) where
-      pub part_refused : (k ≡ 0 → ⊥) → (k ≡ part_refusal q work at b (length part)) × (part ≡ parting q work at b part)
-      unfolding view_refusal part_refusal parting
-      part_refused h = lending.refused (view_checks q work at b) 2 part k (ek ∙ ap (λ x. view_refusal x work at b) e) h _
+    pub part_refused : (x : Refusal) → number_of x ≡ view_refusal q work at b → (number_of x ≡ part_refusal q work at b (length part)) × (part ≡ parting q work at b part)
+    unfolding view_refusal part_refusal parting
+    part_refused x e = lending.refused (view_checks q work at b) 2 part (number_of x) e (lending.some x) _
 
-      pub part_given : k ≡ 0 → (s : Part) → s ≡ part_of (plan_grid g) at b → (r : ℕ) (w : List ℕ) → r ≡ lent_refusal [] 2 (length part)
-          → w ≡ written_or r (cells_part s) part → (r ≡ part_refusal q work at b (length part)) × (w ≡ parting q work at b part)
-      unfolding view_refusal part_refusal parting
-      part_given h s es r w er ew =
-          let same : s ≡ part_of (plan_grid q) at b = es ∙ ap (λ x. part_of (plan_grid x) at b) e in
-          let none : first (view_checks q work at b) ≡ 0 = sym (ek ∙ ap (λ x. view_refusal x work at b) e) ∙ h in
-          lending.passed (view_checks q work at b) 2 part view_numbered none r _ w er (ew ∙ ap (λ (x : Part). written_or r (cells_part x) part) same)
-
-  pub gather_is : (work result w : List ℤ) (at r : ℕ) → (r ≡ gather_refusal g (length work) at (length result)) × (w ≡ gathering g work at result)
-      → (r ≡ gather_refusal q (length work) at (length result)) × (w ≡ gathering q work at result)
-  gather_is work result w at r a = rw e at a
+    pub part_given : view_refusal q work at b ≡ 0 → (s : Part) → s ≡ part_of (plan_grid q) at b → (r : ℕ) (w : List ℕ)
+        → (r ≡ lent_refusal [] 2 (length part)) × (w ≡ written_or r (cells_part s) part) → (r ≡ part_refusal q work at b (length part)) × (w ≡ parting q work at b part)
+    unfolding view_refusal part_refusal parting
+    part_given none s es r w h =
+        lending.passed (view_checks q work at b) 2 part view_numbered none r _ w h.0 (h.1 ∙ ap (λ (x : Part). written_or r (cells_part x) part) es)
 
 -- ---- what a caller may build on
 
@@ -184,25 +170,27 @@ granted checks more z =
 
 -- a plan, its prices and the idle boards put in slices and read back
 back : (q : Plan) (c : Prices) (i : ℕ) (q' : Plan) (c' : Prices) (i' : ℕ) → plan_from (bytes_of q) q.lengths ≡ q' → c ≡ c' → i ≡ i'
-    → read_back (bytes_of q) q.lengths (cells_priced c i) ≡ record { refusal = 0; plan = q'; prices = c'; idle = i' }
+    → read_back (bytes_of q) q.lengths (cells_priced c i) ≡ record { plan = q'; prices = c'; idle = i' }
 unfolding read_back
-back q c i q' c' i' e f g = (λ j. record { refusal = 0; plan = e j; prices = f j; idle = g j })
+back q c i q' c' i' e f g = (λ j. record { plan = e j; prices = f j; idle = g j })
 
 -- what planning writes is taken back as the planner's own plan, which no check of a plan refuses
 module _ (ds : List ℕ) (p : ℕ) where
   abbrev within : PlanLists
   within = plan_within ds p
 
-  pub made_plan : planning_refusal ds p ≡ 0 → plan_from (bytes_of (planning ds p).plan) (planning ds p).plan.lengths ≡ slotted within
-  unfolding planning slotted plan_of
-  made_plan e =
+  taken : planning_refusal ds p ≡ 0 → plan_from (bytes_of (slotted within)) (slotted within).lengths ≡ slotted within
+  unfolding slotted plan_of
+  taken e =
       let ok = planning_accepted ds p e in
       let few = ok.lengths.few in
       let sound = plan_sound ds (power_used ds p) ok.lengths.some ok.enough in
       let o = sound.places in
       let k = sound.each in
-      rw (plan_of_lem (planning_refusal ds p) (idle_boards ds p) within e)
-      (racking.taken_back (slotted within) (padded_length within.order (omega arith)) (padded_length within.exponents (omega arith)) (padded_length ds few))
+      racking.taken_back (slotted within) (padded_length within.order (omega arith)) (padded_length within.exponents (omega arith)) (padded_length ds few)
+
+  pub made_plan : (r : Planned) → gives r ≡ planning ds p → plan_from (bytes_of r.plan) r.plan.lengths ≡ slotted within
+  made_plan r e = let g = given_planned ds p r e in rw g.1 (taken g.0)
 
   module _ (small slots cells : List ℕ) where
     passes : make_refusal ds p (length small) (length slots) (length cells) ≡ 0 → planning_refusal ds p ≡ 0
@@ -212,12 +200,12 @@ module _ (ds : List ℕ) (p : ℕ) where
     pub make_taken : make_refusal ds p (length small) (length slots) (length cells) ≡ 0
         → plan_from (making ds p small slots cells).small (making ds p small slots cells).slots ≡ slotted within
     unfolding making made_or
-    make_taken z = rw z (made_plan (passes z))
+    make_taken z = rw z (taken (passes z))
 
     -- answer 0 is no refusal
     pub make_answer : (making ds p small slots cells).answer ≡ 0 → make_refusal ds p (length small) (length slots) (length cells) ≡ 0
     unfolding making
-    make_answer e = sym (told (make_refusal ds p (length small) (length slots) (length cells)) (planning ds p)) ∙ e
+    make_answer e = sym (told (make_refusal ds p (length small) (length slots) (length cells)) (planned_of (idle_boards ds p) within)) ∙ e
       where
         told : (n : ℕ) (a : Planned) → (made_or n a small slots cells).answer ≡ n
         told zero a = unfold made_or in refl
@@ -225,16 +213,11 @@ module _ (ds : List ℕ) (p : ℕ) where
 
     -- the answer that a caller reads back is planning's own
     pub make_planned : make_refusal ds p (length small) (length slots) (length cells) ≡ 0
-        → read_back (making ds p small slots cells).small (making ds p small slots cells).slots (making ds p small slots cells).cells ≡ planning ds p
+        → gives (read_back (making ds p small slots cells).small (making ds p small slots cells).slots (making ds p small slots cells).cells) ≡ planning ds p
     unfolding making made_or
     make_planned z =
         let e = passes z in
-        let i = idle_boards ds p in
-        let r : planning ds p ≡ planned_as 0 i within = (unfold planning in ap (λ k. planned_as k i within) e) in
-        let c : (planning ds p).prices ≡ prices_of within = (unfold planning in prices_of_lem _ i within e) in
-        let k : (planning ds p).idle ≡ i = (unfold planning in idle_of _ i within e) in
-        let s : record { refusal = 0; plan = slotted within; prices = prices_of within; idle = i } ≡ planned_as 0 i within = (unfold planned_as in refl) in
-        rw z (back (planning ds p).plan (planning ds p).prices (planning ds p).idle (slotted within) (prices_of within) i (made_plan e) c k ∙ s ∙ sym r)
+        rw (z, planned_given ds p e) (ap gives (back (slotted within) (prices_of within) (idle_boards ds p) (slotted within) (prices_of within) (idle_boards ds p) (taken e) refl refl))
 
     pub make_accepted : make_refusal ds p (length small) (length slots) (length cells) ≡ 0
         → plan_refusal (plan_from (making ds p small slots cells).small (making ds p small slots cells).slots) ≡ 0

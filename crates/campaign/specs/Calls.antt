@@ -4,9 +4,9 @@ use Rattle.cube_spec.specs.Checks.{check, first}
 use Rattle.plan_spec.specs.declared.types.Plan.{Plan}
 use Rattle.plan_spec.specs.declared.types.Prices.{Prices}
 use Rattle.plan_spec.specs.declared.types.Planned.{Planned}
-use Rattle.plan_spec.specs.Rule.{idle_boards}
+use Rattle.plan_spec.specs.Rule.{plan_within, idle_boards}
 use Rattle.plan_spec.specs.Refusals.{planning_checks}
-use Rattle.plan_spec.specs.Answers.{planning}
+use Rattle.plan_spec.specs.Answers.{planned_of}
 use Rattle.rack_spec.specs.Finding.{plan_grid}
 use Rattle.run_spec.specs.Entries.{Outcome, step_checks, stepping, view_checks}
 use Rattle.run_view.specs.declared.types.Part.{Part}
@@ -40,13 +40,14 @@ made_or zero a small slots cells = made 0 (bytes_of a.plan) a.plan.lengths (cell
 made_or (suc n) a small slots cells = made (suc n) small slots cells
 
 unfoldable pub making : List ℕ → ℕ → List ℕ → List ℕ → List ℕ → Made
-making ds p small slots cells = made_or (make_refusal ds p (length small) (length slots) (length cells)) (planning ds p) small slots cells
+making ds p small slots cells =
+    made_or (make_refusal ds p (length small) (length slots) (length cells)) (planned_of (idle_boards ds p) (plan_within ds p)) small slots cells
 
 -- what a caller reads back from the three slices that planning filled
 unfoldable pub read_back : List ℕ → List ℕ → List ℕ → Planned
 read_back small slots cells =
     let prices : Prices = record { moved = get_or cells 0 0; added = get_or cells 1 0; share = get_or cells 2 0 } in
-    record { refusal = 0; plan = plan_from small slots; prices = prices; idle = get_or cells 3 0 }
+    record { plan = plan_from small slots; prices = prices; idle = get_or cells 3 0 }
 
 -- ---- the idle boards, for a controller that plans over bytes: lengths as pairs, p, and a slice of one cell
 
