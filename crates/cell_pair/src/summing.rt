@@ -1,4 +1,5 @@
-// Boxes of sums over points of the array, which are read through strides, and of counts, in one reading.
+// Boxes of sums over points of the array, which are read through strides, and of counts, in one reading. That is why the loops that sum alone don't serve:
+// they write one area, and two passes take twice the time.
 ghost use Rattle.std.specs.Prelude.{◌≡◌, ◌+◌, ◌*◌, ◌≤◌, ◌<◌, length};
 ghost use Rattle.cube_spec.specs.Boxes.{sum_z};
 ghost use Rattle.cube_spec.specs.Shots.{values, shots};

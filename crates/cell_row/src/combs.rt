@@ -81,7 +81,8 @@ pub fn sum_each<T: Addend>(work: &mut [i64], values: &[T], comb: Comb, dst: usiz
     }
 }
 
-// The sums by fours, as far as they go.
+// The sums by fours, as far as they go. Inlined, a comb whose sums or values are neighbours has loops of its own, in vectors.
+#[inline(always)]
 pub fn sum_combs<T: Addend>(work: &mut [i64], values: &[T], comb: Comb, dst: usize)
     requires { (Within comb (length values.now)) × (dst + comb.count ≤ length work.old) }
     ensures { work.new ≡ written work.old dst comb.count (sums comb (map T.value values.now)) }

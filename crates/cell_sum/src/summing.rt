@@ -35,15 +35,23 @@ fn sum_rows(work: &mut [i64], array: &[i32], comb: Comb, dst: usize)
     }
 }
 
-// The sums by whichever way is faster.
+// The sums by whichever way is faster. Where sums or values are neighbours the 1 is written out, for loops that are made for it.
 fn sum_line(work: &mut [i64], array: &[i32], comb: Comb, dst: usize)
     requires { (Within comb (length array.now)) × (dst + comb.count ≤ length work.old) }
     ensures { work.new ≡ written work.old dst comb.count (sums comb array.now) }
 {
-    if comb.apart == 1 && 15 < comb.values && 31 < comb.count {
-        sum_rows(work, array, comb, dst);
-    } else if comb.step == 1 && 127 < comb.values {
-        sum_each(work, array, comb, dst);
+    if comb.apart == 1 {
+        if 15 < comb.values && 31 < comb.count {
+            sum_rows(work, array, comb, dst);
+        } else {
+            sum_combs(work, array, Comb { apart: 1, ..comb }, dst);
+        }
+    } else if comb.step == 1 {
+        if 127 < comb.values {
+            sum_each(work, array, Comb { step: 1, ..comb }, dst);
+        } else {
+            sum_combs(work, array, Comb { step: 1, ..comb }, dst);
+        }
     } else {
         sum_combs(work, array, comb, dst);
     }

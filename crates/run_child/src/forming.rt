@@ -46,6 +46,7 @@ pub fn form_cells(
 }
 
 // Of the root, whose cells are the points of the board's box of the array: a sum's points stand as far apart as neighbours on the axis.
+// Extents and strides come apart, since strides are worked out once for all boards and extents for each.
 pub fn form_points(
     plan: Plan,
     root: Choice,
