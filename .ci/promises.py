@@ -70,7 +70,7 @@ for place in re.finditer(r'`([a-z_]+)/([A-Z]\w*)(?:\.\S+?)?`((?:, `[\w.-]+`)*) \
         if name not in declared.get((crate, stem), ()):
             bad.append(f'{stem}.antt of {crate} declares no {name}')
 edits = {f'{e.parts[-3]}/{e.stem}' for e in root.glob('crates/*/must-fail/*.edit')}
-crates = '|'.join(sorted({c for c, _ in declared}))
+crates = '|'.join(sorted({c for c, _ in declared} | {e.split('/')[0] for e in edits}))
 named = set(re.findall(rf'\b((?:{crates})/[a-z]\w*_\w+)\b', text))
 bad += [f'no edit {e}' for e in sorted(named - edits)] + [f'edit {e} is not named' for e in sorted(edits - named)]
 for line in bad:
