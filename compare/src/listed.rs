@@ -32,7 +32,6 @@ pub record Case : Type 0 where
 
 const MEMORY: &str = "\
 -- Small plans with an array, a work area of any contents, and that work area after each step. Written by `compare table memory`.
-use Prim.Native.Nat.{ℕ}
 use mathlib.Core.List.{List, [], ◌∷◌}
 use lib.IntN.{ℤ, pos, negsuc}
 use Rattle.plan_spec.specs.Plans.{PlanLists}
