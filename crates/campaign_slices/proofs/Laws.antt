@@ -19,7 +19,7 @@ use Rattle.campaign_slices.proofs.Lending as lending
 
 -- ---- cells
 
-all_cells : (s : List ℕ) (f : Scan) → length s ≡ cells → length f.lengths ≡ axis_limit
+pub all_cells : (s : List ℕ) (f : Scan) → length s ≡ cells → length f.lengths ≡ axis_limit
     → sets (set (set (set (set s 0 f.axes) 1 f.p) 2 f.points) 3 f.commands) 4 f.lengths ≡ cells_of f
 unfolding cells_of
 all_cells s f h k =

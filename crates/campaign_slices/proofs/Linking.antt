@@ -15,7 +15,7 @@ use Rattle.campaign_slices.specs.Lent.{lent_refusal, written_or}
 use Rattle.campaign_slices.specs.Links.{search_cells, cells_searched, searched_in, lent_search_refusal, lent_search}
 use Rattle.campaign_slices.proofs.Lending as lending
 
-all_cells : (s : List ℕ) (f : Searched) → length s ≡ search_cells → length f.exponents ≡ axis_limit
+pub all_cells : (s : List ℕ) (f : Searched) → length s ≡ search_cells → length f.exponents ≡ axis_limit
     → sets (set (set (set s 0 f.cost) 1 f.distance) 2 f.priced) 3 f.exponents ≡ cells_searched f
 unfolding cells_searched
 all_cells s f h k =

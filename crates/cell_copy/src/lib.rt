@@ -5,12 +5,14 @@ ghost use Rattle.std.specs.Prelude.{◌≡◌, ◌+◌, ◌*◌, ◌≤◌, ◌<
 ghost use Rattle.cell_spec.specs.Rows.{from, placed, written};
 ghost use Rattle.cell_spec.specs.Strides.{box_size, box_place, Boxed};
 
-// Copies n cells to as many neighbours.
+// Copies n cells to as many neighbours. By a loop, since the library's copy calls memmove, which C would have to bring, and costs more where cells are few.
 fn put_row(res: &mut [i64], work: &[i64], src: usize, at: usize, n: usize)
     requires { (at + n ≤ length res.old) × (src + n ≤ length work.now) }
     ensures { res.new ≡ written res.old at n (from work.now src) }
 {
-    res[at..at + n].copy_from_slice(&work[src..src + n]);
+    for i in 0..n {
+        res[at + i] = work[src + i];
+    }
 }
 
 // Copies n cells to places that stand step apart.

@@ -112,9 +112,7 @@ impl<const N: usize> Columns<N> {
         requires { (n ≤ N) × (dst + n ≤ length work.old) }
         ensures { work.new ≡ written work.old dst n (sums_of self.now.lows self.now.highs self.now.hits) }
     {
-        for i in 0..n {
-            work[dst + i] = lowered(self.lows[i], self.highs[i], self.hits[i]);
-        }
+        write_sums(work, &self.lows, &self.highs, &self.hits, n, dst);
     }
 
     // Writes the counts of n columns.
@@ -122,9 +120,7 @@ impl<const N: usize> Columns<N> {
         requires { (n ≤ N) × (dst + n ≤ length counts.old) }
         ensures { counts.new ≡ written counts.old dst n (counts_of self.now.hits) }
     {
-        for i in 0..n {
-            counts[dst + i] = i64::from(self.hits[i]);
-        }
+        write_counts(counts, &self.hits, n, dst);
     }
 }
 
@@ -133,4 +129,24 @@ fn lowered(low: u32, high: u32, hits: u32) -> i64
     ensures { result ≡ pos (high * 65536 + low) -ℤ pos (hits * 2147483648) }
 {
     i64::from(high) * 65536 + i64::from(low) - i64::from(hits) * 2147483648
+}
+
+// Writes the sums of n columns.
+pub fn write_sums(work: &mut [i64], lows: &[u32], highs: &[u32], hits: &[u32], n: usize, dst: usize)
+    requires { (n ≤ length lows.now) × (n ≤ length highs.now) × (n ≤ length hits.now) × (dst + n ≤ length work.old) }
+    ensures { work.new ≡ written work.old dst n (sums_of lows.now highs.now hits.now) }
+{
+    for i in 0..n {
+        work[dst + i] = lowered(lows[i], highs[i], hits[i]);
+    }
+}
+
+// Writes the counts of n columns.
+pub fn write_counts(counts: &mut [i64], hits: &[u32], n: usize, dst: usize)
+    requires { (n ≤ length hits.now) × (dst + n ≤ length counts.old) }
+    ensures { counts.new ≡ written counts.old dst n (counts_of hits.now) }
+{
+    for i in 0..n {
+        counts[dst + i] = i64::from(hits[i]);
+    }
 }

@@ -23,6 +23,10 @@ flipped (negsuc n) f t =
     let e : 18446744073709551615 - (18446744073709551616 - suc n) ≡ n = omega arith in
     rw e (to_z_pos w64 n h)
 
+pub flipped_bits : (x : ℤ) → SFits w64 x → lt_z x (pos 0) ≡ true → 18446744073709551615 - mag x ≡ of_z w64 x
+flipped_bits (pos n) f t = absurd (let h : n < 0 = ltb-true n 0 t in omega arith)
+flipped_bits (negsuc n) f t = let h : n < 2 ^ 63 = f.sfits in omega arith
+
 pub from_pos : (x : ℤ) → SFits w64 x → lt_z x (pos 0) ≡ false → (T (non_neg x)) × (nat_abs x ≡ of_z w64 x) × (nat_abs x ≡ mag x)
 from_pos (pos n) f t = (tt, refl, refl)
 from_pos (negsuc n) f t = absurd (let e : ◌≡◌ {A = ℕ} 0 1 = cc in omega arith)

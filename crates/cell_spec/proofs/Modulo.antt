@@ -1,19 +1,36 @@
 -- Sums modulo 2^64: wrapping on the way changes nothing in the end.
-use Prim.Native.Nat.{ℕ, zero, suc, ◌≤◌, ◌<◌, ◌-◌, ◌+◌, ◌*◌, ◌^◌}
+use Prim.Native.Nat.{ℕ, zero, suc, ◌≤◌, ◌<◌, ◌-◌, ◌+◌, ◌*◌, ◌%◌, ◌^◌}
 use native.Mathlib.Nat.{suc-mul, mul-le-mul, le_refl}
 use mathlib.Core.Path.{◌≡◌, sym, ◌∙◌, refl, ap, ap₂}
 use mathlib.Core.Bool.{Bool, true, false, cond}
 use native.Mathlib.Omega.{arith}
-use borrow.Author.Tests.{ltb-true}
+use borrow.Author.Tests.{ltb-true, ltb-false}
 use lib.Dec.{ltb}
-use lib.IntN.{ℤ, pos, negsuc, ◌+ℤ◌, +ℤ_idr, +ℤ_comm, nat_abs}
+use lib.IntN.{ℤ, pos, negsuc, ◌+ℤ◌, sub_ℕ, +ℤ_idr, +ℤ_comm, nat_abs}
 use mir.Syntax.{w64}
-use mir.Val.{SFits}
+use mir.Val.{of_z, SFits}
 use Rattle.std.specs.Int.{int_wrap}
 use Rattle.std.proofs.lemmas.Int.{int_wrap_fits, int_wrap-add_left}
 use Rattle.cube_spec.specs.Limits.{point_limit}
 use Rattle.cube_spec.specs.Boxes.{pick, sum_z}
 use Rattle.cell_spec.specs.Wrapped.{residue, wrapped}
+
+neg_mod : (a b : ℕ) → residue (sub_ℕ a (suc b)) ≡ (a % 2 ^ 64 + (2 ^ 64 - 1 - b % 2 ^ 64)) % 2 ^ 64
+unfolding residue
+neg_mod a b = go (ltb a (suc b)) refl
+  where
+    go : (t : Bool) → ltb a (suc b) ≡ t → residue (cond t (negsuc (suc b - suc a)) (pos (a - suc b))) ≡ (a % 2 ^ 64 + (2 ^ 64 - 1 - b % 2 ^ 64)) % 2 ^ 64
+    go true e = let h = ltb-true a (suc b) e in omega arith
+    go false e = let h = ltb-false a (suc b) e in omega arith
+
+pub residue_add : (a b : ℤ) → residue (a +ℤ b) ≡ (residue a + residue b) % 2 ^ 64
+unfolding residue
+residue_add (pos m) (pos n) = omega arith
+residue_add (pos m) (negsuc n) = neg_mod m n
+residue_add (negsuc m) (pos n) =
+    let e : (2 ^ 64 - 1 - m % 2 ^ 64 + n % 2 ^ 64) ≡ n % 2 ^ 64 + (2 ^ 64 - 1 - m % 2 ^ 64) = omega arith in
+    rw e (neg_mod n m)
+residue_add (negsuc m) (negsuc n) = omega arith
 
 -- what the library's wrapping sum leaves
 pub as_wrapped : (z : ℤ) → int_wrap w64 z ≡ wrapped z
@@ -41,6 +58,11 @@ wrapped_sum (suc n) f h e =
     sym (wrapped_both (sum_z n f) (f n)) ∙ ap₂ (λ a b. wrapped (a +ℤ b)) (wrapped_sum n f h (λ m l. e m (omega arith))) (e n (omega arith)) ∙ wrapped_both (sum_z n h) (h n)
 
 -- ---- what 64 bits hold does not wrap
+
+pub residue_bits : (z : ℤ) → SFits w64 z → residue z ≡ of_z w64 z
+unfolding residue
+residue_bits (pos n) f = let h : n < 2 ^ 63 = f.sfits in omega arith
+residue_bits (negsuc n) f = let h : n < 2 ^ 63 = f.sfits in omega arith
 
 small_fits : (z : ℤ) → nat_abs z < 2 ^ 63 → SFits w64 z
 small_fits (pos n) h = record { sfits = h }

@@ -35,7 +35,17 @@ fn sum_rows(work: &mut [i64], array: &[i32], comb: Comb, dst: usize)
     }
 }
 
-// The sums by whichever way is faster. Where sums or values are neighbours the 1 is written out, for loops that are made for it.
+// The sums of any comb. No part of `sum_line`, whose loops would leave it too few registers for points that lie far apart.
+#[inline(never)]
+fn sum_apart(work: &mut [i64], array: &[i32], comb: Comb, dst: usize)
+    requires { (Within comb (length array.now)) × (dst + comb.count ≤ length work.old) }
+    ensures { work.new ≡ written work.old dst comb.count (sums comb array.now) }
+{
+    sum_combs(work, array, comb, dst);
+}
+
+// The sums by whichever way is faster. Where sums are neighbours, or as many as 32 values, the 1 is written out, for loops that are made for it: of fewer values
+// those take longer than the others.
 fn sum_line(work: &mut [i64], array: &[i32], comb: Comb, dst: usize)
     requires { (Within comb (length array.now)) × (dst + comb.count ≤ length work.old) }
     ensures { work.new ≡ written work.old dst comb.count (sums comb array.now) }
@@ -46,14 +56,14 @@ fn sum_line(work: &mut [i64], array: &[i32], comb: Comb, dst: usize)
         } else {
             sum_combs(work, array, Comb { apart: 1, ..comb }, dst);
         }
-    } else if comb.step == 1 {
+    } else if comb.step == 1 && 31 < comb.values {
         if 127 < comb.values {
             sum_each(work, array, Comb { step: 1, ..comb }, dst);
         } else {
             sum_combs(work, array, Comb { step: 1, ..comb }, dst);
         }
     } else {
-        sum_combs(work, array, comb, dst);
+        sum_apart(work, array, comb, dst);
     }
 }
 

@@ -1,12 +1,14 @@
 -- The refusals of the search, test by test, and what is left when none is due.
-use Prim.Native.Nat.{ℕ, ◌≤◌, ◌<◌}
+use Prim.Native.Nat.{ℕ, ◌+◌, ◌≤◌, ◌<◌}
 use mathlib.Core.Path.{◌≡◌, ◌∙◌, sym}
 use mathlib.Core.Bool.{Bool, true, false, not}
 use mathlib.Core.List.{List, [], ◌∷◌}
 use native.Mathlib.Omega.{arith}
 use native.Mathlib.Nat.{pos_of_ne-zero}
+use native.Mathlib.Numerals.{add-one}
 use lib.Dec.{eqb, ltb}
-use lib.ListN.{length}
+use lib.ListN.{length, get_or, drop, drop_of_length-le}
+use lib.Seq.{drop-cons}
 use borrow.Author.Tests.{eq-eqb, ne_eqb, eqb-true, eqb-false, le-ltb, ltb-false, not-false}
 use Rattle.cube_spec.specs.Checks.{Check, check, first}
 use Rattle.cube_spec.proofs.Dues.{Numbered, numbered_both, first_due, first_passed, none_first, none_both}
@@ -27,6 +29,20 @@ unfolding bad_link
 good_link w e =
     let o = or_none (eqb w 0) (ltb link_limit w) e in
     (pos_of_ne-zero (eqb-false w 0 o.0), ltb-false link_limit w o.1)
+
+-- a list tested from place i on
+module _ (f : ℕ → Bool) (l : List ℕ) (i : ℕ) (h : i < length l) where
+  pub some_here : f (get_or l i 0) ≡ true → some f (drop i l) ≡ true
+  unfolding some
+  some_here t = rw (drop-cons l i 0 h, t)
+
+  pub some_on : f (get_or l i 0) ≡ false → some f (drop i l) ≡ some f (drop (i + 1) l)
+  unfolding some
+  some_on t = rw (drop-cons l i 0 h, t, add-one i)
+
+pub some_past : (f : ℕ → Bool) (l : List ℕ) (i : ℕ) → length l ≤ i → some f (drop i l) ≡ false
+unfolding some
+some_past f l i h = rw (drop_of_length-le l h)
 
 -- one for each axis, each in range
 module _ (n : ℕ) (links : List ℕ) where

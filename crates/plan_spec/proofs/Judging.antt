@@ -1,12 +1,12 @@
 -- Laws for the loops that judge lengths and plans. Each loop compares what is left of a list with the whole.
-use Prim.Native.Nat.{ℕ, zero, suc, ◌+◌, ◌-◌, ◌*◌, ◌^◌, ◌≤◌, ◌<◌}
-use mathlib.Core.Path.{◌≡◌, sym, ◌∙◌, refl}
+use Prim.Native.Nat.{ℕ, zero, suc, ◌+◌, ◌-◌, ◌*◌, ◌/◌, ◌^◌, ◌≤◌, ◌<◌}
+use mathlib.Core.Path.{◌≡◌, sym, ◌∙◌, refl, ap}
 use mathlib.Core.Bool.{Bool, true, false, ◌||◌, not}
 use mathlib.Core.List.{List, [], ◌∷◌}
-use native.Mathlib.Nat.{mul-one, one-mul, mul_assoc, mul-le-mul_left}
+use native.Mathlib.Nat.{mul-one, one-mul, mul_assoc, mul-le-mul, mul-le-mul_left}
 use native.Mathlib.Numerals.{add-one}
 use native.Mathlib.Omega.{arith}
-use borrow.Author.Tests.{eqb-true, eqb-false, eq-eqb, ne_eqb, ltb-false, lt-ltb, le-ltb, lt-leb}
+use borrow.Author.Tests.{eqb-true, eqb-false, eq-eqb, ne_eqb, ltb-false, lt-ltb, le-ltb, le-leb, lt-leb, leb-true}
 use lib.Dec.{eqb, ltb, leb}
 use lib.ListN.{length, get_or, take, drop, drop_of_length-le}
 use lib.Seq.{drop-cons, get_or-take, length-take-le}
@@ -88,6 +88,21 @@ module _ (l : List ℕ) (n : ℕ) (eight : length l ≡ 8) (few : n ≤ 8) where
       let q = first_length in
       rw (add-one, ← get_or-take n l i 0 h) (drop-cons (take n l) i 0 (omega arith))
 
+  pub left_none : (i : ℕ) → n ≤ i → drop i (take n l) ≡ []
+  left_none i h = let q = first_length in drop_of_length-le (take n l) {i = i} (omega arith)
+
+  pub some_hit : (f : ℕ → Bool) (i : ℕ) → i < n → f (get_or l i 0) ≡ true → some f (drop i (take n l)) ≡ true
+  unfolding some
+  some_hit f i h t = rw (left_next i h, t)
+
+  pub some_miss : (f : ℕ → Bool) (i : ℕ) → i < n → f (get_or l i 0) ≡ false → some f (drop i (take n l)) ≡ some f (drop (i + 1) (take n l))
+  unfolding some
+  some_miss f i h t = rw (left_next i h, t)
+
+  pub some_end : (f : ℕ → Bool) (i : ℕ) → n ≤ i → some f (drop i (take n l)) ≡ false
+  unfolding some
+  some_end f i h = rw (left_none i h)
+
 -- ---- lengths
 
 pub good_length : (x : ℕ) → 1 ≤ x → x ≤ length_limit → bad_length x ≡ false
@@ -102,7 +117,7 @@ length_good x e =
     (λ t. let ne = eqb-false x 0 t in let z : ltb 65535 x ≡ false = rw t at e in let q = ltb-false 65535 x z in (omega (arith, ne), omega arith))
 
 module _ (l : List ℕ) (good : some bad_length l ≡ false) where
-  slot_good : (i : ℕ) → i < length l → (1 ≤ length_of l i) × (length_of l i ≤ length_limit)
+  pub slot_good : (i : ℕ) → i < length l → (1 ≤ length_of l i) × (length_of l i ≤ length_limit)
   slot_good i h = length_good (length_of l i) (some_false bad_length l good i h)
 
   -- what is left to multiply from place i on
@@ -129,11 +144,27 @@ module _ (l : List ℕ) (good : some bad_length l ≡ false) where
         let r = points_next in
         lt-ltb 16777216 (points l) (omega arith)
 
+    pub points_fit : c * length_of l i < 18446744073709551616
+    points_fit = let q = mul-le-mul small (slot_good i h).1 in omega arith
+
   pub points_end : (c i : ℕ) → length l ≤ i → c ≤ point_limit → c * factors i ≡ points l → too_many_points l ≡ false
   unfolding too_many_points
   points_end c i h small e = let q : c ≡ points l = (rw (product_none (length_of l) (length l) i h, mul-one) at e) in le-ltb 16777216 (points l) (omega arith)
 
 -- ---- floor(log2 d)
+
+-- more fuel changes nothing
+halvings_same : (f g d : ℕ) → d ≤ f → d ≤ g → halvings f d ≡ halvings g d
+unfolding halvings
+halvings_same zero zero d h k = refl
+halvings_same zero (suc g) d h k = rw (lt-leb 2 d (omega arith))
+halvings_same (suc f) zero d h k = rw (lt-leb 2 d (omega arith))
+halvings_same (suc f) (suc g) d h k = by (leb 2 d) (λ t. rw t (ap suc (halvings_same f g (d / 2) (let q = leb-true 2 d t in omega arith) (let q = leb-true 2 d t in omega arith)))) (λ t. rw t)
+
+pub log2_next : (d : ℕ) → 1 < d → log2 d ≡ 1 + log2 (d / 2)
+unfolding log2
+log2_next zero h = absurd (omega arith)
+log2_next (suc d) h = unfold halvings in rw (le-leb 2 (suc d) h) (ap suc (halvings_same d (suc d / 2) (suc d / 2) (omega arith) (omega arith)) ∙ (omega arith))
 
 pub log2_none : (d : ℕ) → d ≤ 1 → log2 d ≡ 0
 unfolding log2 halvings

@@ -22,7 +22,7 @@ use Rattle.cube_spec.specs.Checks.{gives, refuses, answered}
 use Rattle.cube_spec.proofs.Sums.{by}
 use Rattle.cube_spec.proofs.Boxing.{product_cong}
 use Rattle.cube_spec.proofs.Naturals.{sum_n_cong, impossible}
-use Rattle.cube_spec.proofs.Products.{product_pos, product_le, product_next}
+use Rattle.cube_spec.proofs.Products.{product_pos, product_le, factor_le, product_next, product_none}
 use Rattle.cube_spec.proofs.Slots.{padded_take, table_here}
 use Rattle.cube_spec.proofs.Tables.{table_length}
 use Rattle.cube_spec.proofs.Sets.{has_head, kept_has, kept_out, kept_other}
@@ -123,6 +123,9 @@ module _ (L E : List ℕ) (n : ℕ) (ok : Priceable L E n) where
   rest_pos : (i : ℕ) → 0 < product (length_of L) (n - i) i
   rest_pos i = product_pos (length_of L) (n - i) i (λ j a b. ok.some j (omega arith))
 
+  pub length_small : (i : ℕ) → i < n → length_of L i ≤ point_limit
+  length_small i h = le_trans (factor_le (length_of L) n 0 i (λ j a b. ok.some j (omega arith)) (omega arith) (omega arith)) ok.small
+
   -- a number times what is left is at least the number
   small_factor : (x i : ℕ) → x * product (length_of L) (n - i) i ≤ point_limit → x ≤ point_limit
   small_factor x i h = let q = mul-le-mul_left x (rest_pos i) in let p = mul-one x in omega arith
@@ -216,10 +219,18 @@ ceiling_le zero m h k = absurd (omega arith)
 ceiling_le (suc D) zero h k = absurd (omega arith)
 ceiling_le (suc D) (suc m) h k = div-le_of_le-mul (suc m) {m = suc D + (suc m - 1)} {n = suc D} (omega arith)
 
+ceiling_pos : (D m : ℕ) → 1 ≤ D → 1 ≤ m → 0 < ceiling D m
+unfolding ceiling
+ceiling_pos D m h k = (le-div_iff_mul-le {k = m} {x = 1} {y = D + (m - 1)} k).1 (omega arith)
+
 module _ (L E : List ℕ) (n : ℕ) (ok : Priceable L E n) where
   most_le : (d : ℕ) → d < n → most_of L E d ≤ length_of L d
   unfolding most_of
   most_le d h = ceiling_le (length_of L d) (2 ^ get_or E d 0) (ok.some d h) (pow_pos (get_or E d 0))
+
+  most_pos : (d : ℕ) → d < n → 0 < most_of L E d
+  unfolding most_of
+  most_pos d h = ceiling_pos (length_of L d) (2 ^ get_or E d 0) (ok.some d h) (pow_pos (get_or E d 0))
 
   module _ (i : ℕ) where
     -- the factors of region i
@@ -239,9 +250,39 @@ module _ (L E : List ℕ) (n : ℕ) (ok : Priceable L E n) where
         (λ t. let e = eqb-true d i t in let f = factor_same in let s = ok.some d h in rw e (let s : 1 ≤ length_of L i = (rw e at s) in omega arith))
         (λ t. rw (factor_other d (eqb-false d i t)) (most_le d h))
 
+    factor_pos : (d : ℕ) → d < n → 0 < factor d
+    factor_pos d h =
+        by (eqb d i)
+        (λ t. rw (eqb-true d i t, factor_same) (omega arith))
+        (λ t. rw (factor_other d (eqb-false d i t)) (most_pos d h))
+
     pub region_small : region_size n (most_of L E) i ≤ point_limit
     unfolding region_size choice_cells
     region_small = le_trans (product_le factor (length_of L) n 0 (λ d a b. factor_le_length d (omega arith))) ok.small
+
+    -- a region's size as a product that goes on axis by axis
+    pub region_start_lem : 1 * product factor (n - 0) 0 ≡ region_size n (most_of L E) i
+    unfolding region_size choice_cells
+    region_start_lem = rw (sub-zero, one-mul)
+
+    pub region_end : (d size : ℕ) → n ≤ d → size * product factor (n - d) d ≡ region_size n (most_of L E) i → size ≡ region_size n (most_of L E) i
+    region_end d size h e = rw (product_none factor n d h, mul-one) at e
+
+    module _ (d size : ℕ) (h : d < n) (e : size * product factor (n - d) d ≡ region_size n (most_of L E) i) where
+      pub region_other : (d ≡ i → ⊥) → size * most_of L E d * product factor (n - (d + 1)) (d + 1) ≡ region_size n (most_of L E) i
+      region_other ne = rw (product_next factor n d h, factor_other d ne, ← mul_assoc) at e
+
+      pub region_same : d ≡ i → size * product factor (n - (d + 1)) (d + 1) ≡ region_size n (most_of L E) i
+      region_same z = let f : factor d ≡ 1 = rw z factor_same in rw (product_next factor n d h, f, one-mul) at e
+
+      -- so far the product is at most the region
+      pub region_fits : (d ≡ i → ⊥) → size * most_of L E d ≤ point_limit
+      region_fits ne =
+          let r = region_other ne in
+          let s = region_small in
+          let p = mul-le-mul_left (size * most_of L E d) (product_pos factor (n - (d + 1)) (d + 1) (λ j a b. factor_pos j (omega arith))) in
+          let q = mul-one (size * most_of L E d) in
+          omega arith
 
 pub share_next : (n i : ℕ) (most : ℕ → ℕ) → region_start n most (i + 1) ≡ region_start n most i + region_size n most i
 unfolding region_start sum_n

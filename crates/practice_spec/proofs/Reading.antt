@@ -11,11 +11,13 @@ use lib.ListN.{length, get_or, drop, drop_of_length-le}
 use lib.Seq.{drop-cons}
 use Rattle.cube_spec.specs.Boxes.{pick}
 use Rattle.cube_spec.specs.Checks.{Reply, gives, refuses, answered, first}
+use Rattle.cube_spec.proofs.Answered.{refuses_is, refuses_some}
 use Rattle.cube_spec.proofs.Sums.{by}
 use Rattle.report_spec.specs.Printed.{refused_line}
 use Rattle.practice_spec.specs.Draws.{practice, tape_of}
 use Rattle.practice_spec.specs.Seeds.{is_digit, digits_of, after_digits, opens_with_feed, digit_limit, seed_line, value, seed_of, seed_limit, bad_seed, practice_checks, practice_refusal, practised_or, practised}
 use Rattle.practice_spec.specs.inner.Judged.{seeded}
+use Rattle.practice_spec.proofs.Lines.{prints_bad}
 
 abbrev refused : Reply ℕ
 refused = refuses 22
@@ -145,6 +147,20 @@ practised_by (suc n) seed = refl
 pub prints_by : (input : List ℕ) (r : Reply ℕ) → r ≡ seeded input → practised input ≡ printed_by r
 unfolding practised seeded
 prints_by input r e = practised_by (practice_refusal input) (seed_of input) ∙ ap printed_by (sym e)
+
+-- no other refusal is due than 22
+none_due : (input : List ℕ) → bad_seed input ≡ false → practice_refusal input ≡ 0
+unfolding practice_refusal practice_checks first
+none_due input t = rw t refl
+
+pub prints_refused : (input : List ℕ) (n : ℕ) → refuses n ≡ seeded input → practised input ≡ refused_line 22
+unfolding seeded
+prints_refused input n e = by (bad_seed input)
+    (λ t. prints_bad input t)
+    (λ t. absurd (refuses_some (practice_refusal input) n _ e (refuses_is (practice_refusal input) n _ e ∙ none_due input t)))
+
+pub prints_tape : (input : List ℕ) (seed : ℕ) → gives seed ≡ seeded input → practised input ≡ tape_of (practice seed)
+prints_tape input seed e = prints_by input (gives seed) e
 
 -- ---- how much of an input tells
 

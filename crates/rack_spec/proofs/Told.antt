@@ -13,7 +13,7 @@ use Rattle.rack_spec.specs.Steps.{TreeStep, expand, transfer, finish, steps}
 use Rattle.cube_choice.specs.declared.types.Choice.{Choice}
 use Rattle.rack_spec.specs.declared.types.Step.{Step}
 use Rattle.rack_spec.specs.declared.types.Step.TheVariants as Step'
-use Rattle.rack_spec.specs.Answers.{told, expands, transfers, finishes, done, telling_or, told_at}
+use Rattle.rack_spec.specs.Answers.{told, expands, transfers, finishes, done, refused, telling_or, told_at}
 use Rattle.rack_spec.proofs.Every.{Every, every_get, every_step}
 use Rattle.rack_spec.proofs.Masks.{set_mask}
 
@@ -99,6 +99,17 @@ module _ (g : Grid) where
         go (some (expand Z)) e t = impossible (cc)
         go (some (transfer Z s r n)) e t = impossible (cc)
         go (some (finish Z)) e t = impossible (cc)
+
+    -- no step of the list is told as a refusal
+    pub never_refused : (n : ℕ) → refused n ≡ told_at g (steps g) at → ⊥
+    unfolding told_at
+    never_refused n t = go (get_elem? (steps g) at) t
+      where
+        go : (m : Option TreeStep) → refused n ≡ telling_or g m → ⊥
+        go none t = impossible (cc)
+        go (some (expand Z)) t = impossible (cc)
+        go (some (transfer Z s r k)) t = impossible (cc)
+        go (some (finish Z)) t = impossible (cc)
 
 -- a transfer of the list
 pub known_step : (g : Grid) (at : ℕ) (Z : List ℕ) (s r n : ℕ) → get_elem? (steps g) at ≡ some (transfer Z s r n) → Known g Z s r n

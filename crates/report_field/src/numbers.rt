@@ -16,7 +16,7 @@ impl Spelled for u64 {
     ghost spelling = { decimal };
 
     fn spell(self, buffer: &mut Buffer) -> &str {
-        buffer.format(self)
+        buffer.format(self) // its digits
     }
 }
 
@@ -24,6 +24,6 @@ impl Spelled for i64 {
     ghost spelling = { signed };
 
     fn spell(self, buffer: &mut Buffer) -> &str {
-        buffer.format(self)
+        buffer.format(self) // its sign and digits
     }
 }

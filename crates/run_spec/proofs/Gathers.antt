@@ -201,6 +201,9 @@ module _ (q : Plan) (work : List ℤ) (at : ℕ) (old : List ℤ) where
     unfolding gathering gather_or
     delivered = rw z refl
 
+    pub kept_none : finished_at (plan_grid q) at ≡ none → old ≡ gathering q work at old
+    kept_none e = sym (delivered ∙ ap (λ o. gather_of (lists_of q) o work old) e)
+
     pub gathered_some : (Y : List ℕ) → finished_at (plan_grid q) at ≡ some Y → gathered (lists_of q).lengths (plan_grid q) Y (read work) ≡ gathering q work at old
     gathered_some Y e = sym (delivered ∙ ap (λ o. gather_of (lists_of q) o work old) e)
 

@@ -208,7 +208,7 @@ module _ (tape : List ℕ) (judged : Result Planned Refusal) (points work₀ : L
 
   -- Statement: it comes to that end, no report has more than 300 lines.
   pub soon_zero : {work : List ℤ} {at r : ℕ} {answers bytes : List ℕ} → Run tape judged points work₀ work at (r ∷ answers) bytes → 300 ≤ length answers → r ≡ 0
-  soon_zero run h = after_all_zero run (let f = lines_few tape judged from.judgement in omega arith)
+  soon_zero run h = after_all_zero run (let f = lines_few tape in omega arith)
 
   -- Statement: of the next call after a run, what next_line asks is met, and the bytes it hands out are exactly the next line.
   module _ {work : List ℤ} {at : ℕ} {answers bytes : List ℕ} (run : Run tape judged points work₀ work at answers bytes) (κs : Lfts 6) (a : ArgsD signature κs)

@@ -27,7 +27,7 @@ module _ (κs : Lfts 5) (a : ArgsD signature κs) (r : ResD signature κs) (s : 
     where
       go : (r : Result ℕ Stopped) → Ends input r → lines_of r ≤ length (printed_lines input)
       go (Ok lines) s = omega arith
-      go (Err stopped) s = omega arith
+      go (Err stopped) s = let l = s.0 in omega arith
 
   -- all of them where no write failed: these are the definition's printed output, byte for byte;
   pub all_lines : (lines : ℕ) → r ≡ Ok lines → lines ≡ length (printed_lines input)
@@ -38,4 +38,4 @@ module _ (κs : Lfts 5) (a : ArgsD signature κs) (r : ResD signature κs) (s : 
 
   -- and it says that a write failed only where a line is left.
   pub line_left : (stopped : Stopped) → r ≡ Err stopped → stopped.lines < length (printed_lines input)
-  line_left stopped t = rw t at (h input e)
+  line_left stopped t = let s : Ends input (Err stopped) = (rw t at (h input e)) in s.0

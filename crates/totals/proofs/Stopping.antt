@@ -1,6 +1,7 @@
 -- Where the program stops: after the last line, or at a write that fails.
 use Prim.Native.Nat.{ℕ, ◌≤◌, ◌<◌}
 use mathlib.Core.Path.{◌≡◌, ◌∙◌, ap}
+use mathlib.Core.Bool.{Bool, false}
 use mathlib.Core.List.{List}
 use native.Mathlib.Omega.{arith}
 use borrow.Author.Tests.{ltb-true, ltb-false}
@@ -28,8 +29,8 @@ pub ends_whole : (tape : List ℕ) (k n : ℕ) → k ≤ length (printed_lines t
 ends_whole tape k n h e z = let m = none_left tape k n e z in omega arith
 
 -- the line that was not taken is left
-pub ends_cut : (tape : List ℕ) (k n : ℕ) → n ≡ length (line_at tape k) → (n ≡ 0 → ⊥) → Ends tape (Err (record { lines = k }))
-ends_cut tape k n e h = line_some tape k n e h
+pub ends_cut : (tape : List ℕ) (k n : ℕ) (t : Bool) → n ≡ length (line_at tape k) → (n ≡ 0 → ⊥) → t ≡ false → Ends tape (Err (record { lines = k; taken = t }))
+ends_cut tape k n t e h f = (line_some tape k n e h, f)
 
 -- THE INPUT IN PLACE OF WHAT WAS READ OF IT: where there is room for more bytes than a tape may have, the report is that of the whole input.
 pub ends_input : (space input : List ℕ) (n : ℕ) (w : Result ℕ Stopped) → tape_limit < length space → ReadFrom input space n → Ends (take n space) w → Ends input w
@@ -40,7 +41,7 @@ ends_input space input n w h e s = ends w s
 
     ends : (w : Result ℕ Stopped) → Ends (take n space) w → Ends input w
     ends (Ok lines) s = s ∙ many
-    ends (Err stopped) s = let m = many in omega arith
+    ends (Err stopped) s = (let m = many in let l = s.0 in omega arith, s.1)
 
 -- WHERE NO WRITE FAILED, THE LINES TAKEN ARE THE PRINTED OUTPUT, one after the other, byte for byte.
 pub whole_printed : (tape : List ℕ) (lines : ℕ) → Ends tape (Ok lines) → joined (take lines (printed_lines tape)) ≡ printed tape

@@ -45,7 +45,7 @@ fn print_lines(
         }
         let taken = write(tape, lines, out, used);
         if !taken {
-            return Err(Stopped { lines });
+            return Err(Stopped { lines, taken });
         }
         lines += 1;
     }

@@ -9,7 +9,7 @@ use borrow.Author.Tests.{ltb-true, ltb-false}
 use lib.Dec.{ltb}
 use lib.ListN.{length, get_or, get_or-eq_default}
 use Rattle.std.specs.Prelude.{Result, Ok, Err, IfOk}
-use Rattle.cube_spec.specs.Checks.{gives, refuses}
+use Rattle.cube_spec.specs.Checks.{Reply, gives, refuses}
 use Rattle.cube_spec.specs.Refusals.{number_of, reply_of}
 use Rattle.cube_spec.specs.declared.refusals.Refusal.{Refusal}
 use Rattle.cube_spec.proofs.Sums.{by}
@@ -182,8 +182,8 @@ pub line_some : (tape : List ℕ) (k n : ℕ) → n ≡ length (line_at tape k) 
 unfolding line_at
 line_some tape k n e h = by (ltb k (length (printed_lines tape))) (λ t. ltb-true _ _ t) (λ t. absurd (h (e ∙ ap length (get_or-eq_default (printed_lines tape) [] {n = k} (ltb-false k (length (printed_lines tape)) t)))))
 
-pub lines_few : (tape : List ℕ) (judged : Result Planned Refusal) → reply_of judged ≡ judging tape → length (printed_lines tape) ≤ 300
-lines_few tape (Ok t) e =
+few_for : (tape : List ℕ) (judged : Reply Planned) → judged ≡ judging tape → length (printed_lines tape) ≤ 300
+few_for tape (gives t) e =
     let none = Taken.none_due tape t e in
     let a = Taken.plan_accepted tape t e in
     let l : length (plan_for (campaign_of tape)).lengths ≡ t.plan.axes = ap (λ a. length a.lengths) (sym (Taken.lists_are tape t e)) ∙ a.axes in
@@ -193,7 +193,10 @@ lines_few tape (Ok t) e =
     let x = a.axes in
     let p : 2 ^ t.plan.axes ≤ 2 ^ 8 = pow_mono {j = 8} (omega arith) in
     omega arith
-lines_few tape (Err n) e = let c = refused_count tape (λ y. Taken.refused_some tape (number_of n) e (Taken.refusal_is tape (number_of n) e ∙ y)) in omega arith
+few_for tape (refuses n) e = let c = refused_count tape (λ y. Taken.refused_some tape n e (Taken.refusal_is tape n e ∙ y)) in omega arith
+
+pub lines_few : (tape : List ℕ) → length (printed_lines tape) ≤ 300
+lines_few tape = few_for tape (judging tape) refl
 
 pub begins : (tape : List ℕ) (judged : Result Planned Refusal) → reply_of judged ≡ judging tape → (points work : List ℤ) → IfOk judged (λ t. points ≡ (campaign_of tape).points) → Small points → length work ≡ 8192 → Stands tape judged 0 points work 0
 begins tape (Err n) e points work h small room = record { judgement = e; running = tt }

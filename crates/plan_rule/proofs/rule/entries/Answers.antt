@@ -1,16 +1,17 @@
-use mathlib.Core.List.{List}
+use mathlib.Core.List.{List, ◌++◌}
 use mathlib.Core.Path.{◌≡◌, refl, sym, ◌∙◌, ap}
 use mir.Val.{Fits}
 use mir.Syntax.{w64}
 use Prim.Native.Nat.{ℕ, ◌<◌, ◌-◌, ◌+◌, ◌*◌}
 use native.Mathlib.Omega.{arith}
 use native.Mathlib.Nat.{zero-add}
-use lib.ListN.{length, get_or, set}
-use Rattle.cube_spec.specs.Boxes.{table_from, product}
+use lib.ListN.{length, get_or, set, take, replicate}
+use Rattle.cube_spec.specs.Limits.{axis_limit}
+use Rattle.cube_spec.specs.Boxes.{table, table_from, product}
 use Rattle.cube_spec.specs.Choices.{length_of}
 use Rattle.cube_spec.specs.Tree.{weight}
 use Rattle.cube_spec.proofs.Products.{product_last}
-use Rattle.cube_spec.proofs.Slots.{spaced_next, spaced_table}
+use Rattle.cube_spec.proofs.Slots.{spaced_next}
 use Rattle.plan_spec.specs.Rule.{Entry}
 use Rattle.plan_spec.specs.Choosing.{Bounded}
 use Rattle.plan_spec.proofs.Bounding.{more_small, weight_parts, weight_small}
@@ -57,4 +58,5 @@ pub returns : goal.returns
 returns c =
     let l = c.args.lengths.now in
     let E : ℕ → Entry = λ i. record { weight = weight (length l) (length_of l) i; len = length_of l i; exp = 0 } in
-    spaced_table spare (length l) c.loop-i.i E c.loop-i.out (let f = c.requires.few in omega arith) (omega arith) c.loop-i.invariant.1
+    let all : c.loop-i.i ≡ length l = omega arith in
+    c.loop-i.invariant.1 ∙ ap (λ n. take axis_limit (table n E ++ replicate axis_limit spare)) all

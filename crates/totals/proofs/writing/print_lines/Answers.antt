@@ -1,4 +1,5 @@
-use mathlib.Core.Path.{refl}
+use mathlib.Core.Path.{◌≡◌, refl}
+use mathlib.Core.Bool.{false}
 use native.Mathlib.Omega.{arith}
 use Rattle.totals_line.proofs.Lined.{begins, lines_few, line_some}
 use Rattle.totals.proofs.Handed.{line_there}
@@ -24,13 +25,14 @@ write-taken-requires c = let nl = c.next_line-used in
 pub returns-then-not-taken : goal.returns-then-not-taken
 returns-then-not-taken c = let nl = c.next_line-used in
     let tape = c.args.tape.now in
-    ends_cut tape c.loop-judged.lines nl.result nl.ensures.0 c.if-used-eq0.false
+    let q : c.write-taken.result ≡ false = c.if-not-taken.true in
+    ends_cut tape c.loop-judged.lines nl.result _ nl.ensures.0 c.if-used-eq0.false q
 
 pub overflow_add-lines : goal.overflow_add-lines
 overflow_add-lines c = let nl = c.next_line-used in
     let tape = c.args.tape.now in
     let l = line_some tape c.loop-judged.lines nl.result nl.ensures.0 c.if-used-eq0.false in
-    let f = lines_few tape c.args.judged c.requires.0 in
+    let f = lines_few tape in
     record { fits = omega arith }
 
 pub loop-judged-smaller : goal.loop-judged-smaller
