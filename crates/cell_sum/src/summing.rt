@@ -44,8 +44,8 @@ fn sum_apart(work: &mut [i64], array: &[i32], comb: Comb, dst: usize)
     sum_combs(work, array, comb, dst);
 }
 
-// The sums by whichever way is faster. Where sums are neighbours, or as many as 32 values, the 1 is written out, for loops that are made for it: of fewer values
-// those take longer than the others.
+// The sums by whichever way is faster. Where sums are neighbours, or 32 values or more, the 1 is written out, for loops that are made for it: of fewer values
+// such loops take longer than the others.
 fn sum_line(work: &mut [i64], array: &[i32], comb: Comb, dst: usize)
     requires { (Within comb (length array.now)) × (dst + comb.count ≤ length work.old) }
     ensures { work.new ≡ written work.old dst comb.count (sums comb array.now) }
